@@ -2,6 +2,7 @@
 //! It rests on nothing but the standard library.
 
 pub mod address;
+pub mod cell;
 pub mod frame;
 pub mod name;
 pub mod value;
