@@ -24,8 +24,8 @@ fits-not n xs i d h e = at-drop-more (all-fit n) xs i d h ∙ and-left _ _ e
 -- a list copied item by item into one with room enough
 pub copied-more : {T : Type 0} (n : ℕ) (xs ys zs : List T) (i : ℕ) (d : T) (r : Result Unit Full) → ys ≡ take i xs → i < length xs → length xs ≤ n → (r, zs) ≡ appended n ys (getD xs i d) → zs ≡ take (i + 1) xs
 copied-more n xs ys zs i d r e h l a =
-  let some : i ≤ length xs = omega arith in
-  let size : length ys ≡ i = ap length e ∙ length-take-le i xs some in
-  let room : ltb (length ys) n ≡ true = lt-ltb _ _ (omega arith) in
-  let added : appended n ys (getD xs i d) ≡ (Ok tt, ys ++ (getD xs i d ∷ [])) = rw room in
-  ap (λ p. p .1) (a ∙ added) ∙ ap (λ l. l ++ (getD xs i d ∷ [])) e ∙ sym (take-more xs i d h)
+    let some : i ≤ length xs = omega arith in
+    let size : length ys ≡ i = ap length e ∙ length-take-le i xs some in
+    let room : ltb (length ys) n ≡ true = lt-ltb _ _ (omega arith) in
+    let added : appended n ys (getD xs i d) ≡ (Ok tt, ys ++ (getD xs i d ∷ [])) = rw room in
+    ap (λ p. p .1) (a ∙ added) ∙ ap (λ l. l ++ (getD xs i d ∷ [])) e ∙ sym (take-more xs i d h)

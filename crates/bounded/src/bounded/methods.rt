@@ -1,4 +1,5 @@
 //! What can be done with a bounded list.
+ghost use Prim.Native.Nat.{_≤_};
 ghost use lib.ListN.{length};
 ghost use mathlib.Core.List.{[]};
 ghost use mathlib.Core.Path.{_≡_};
@@ -19,7 +20,8 @@ impl<T: Copy, const N: usize> Bounded<T, N> {
     }
 
     pub fn len(&self) -> usize
-        ensures { λ r. ⌜ r ≡ length (listed (now (self .entry))) ⌝ }
+        ensures value { λ r. ⌜ r ≡ length (listed (now (self .entry))) ⌝ }
+        ensures within { λ r. ⌜ r ≤ N ⌝ }
     {
         self.count
     }

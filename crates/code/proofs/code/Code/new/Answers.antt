@@ -19,17 +19,17 @@ whole c = c .loop-instruction .inv ∙ take-all _ _ (c .loop-instruction-test .l
 
 pub loop-instruction-again : need.loop-instruction-again
 loop-instruction-again c =
-  copied-more 256 (c .args .instructions .now) (listed (c .loop-instruction .list)) (listed (c .push .last .self))
+    copied-more 256 (c .args .instructions .now) (listed (c .loop-instruction .list)) (listed (c .push .last .self))
     (c .loop-instruction .instruction-index) _ (c .push .result) (c .loop-instruction .inv) (c .loop-instruction-test .taken) (omega arith) (c .push .ensures)
 
 pub ghost-result : need.ghost-result
 ghost-result c =
-  let P : List Instruction → Type 0 = λ is. all-fit (length is) is ≡ true in
-  (subst P (sym (whole c)) (sym (c .if-not-all-fit .ensures tt)), tt)
+    let P : List Instruction → Type 0 = λ is. all-fit (length is) is ≡ true in
+    (subst P (sym (whole c)) (sym (c .if-not-all-fit .ensures tt)), tt)
 
 pub returns : need.returns
 returns c =
-  let few : leb (length (c .args .instructions .now)) 256 ≡ true = le-leb _ _ (omega arith) in
-  let fit : all-fit (length (c .args .instructions .now)) (c .args .instructions .now) ≡ true = sym (c .if-not-all-fit .ensures tt) in
-  let all : listed (c .loop-instruction .list) ≡ c .args .instructions .now = c .loop-instruction .inv ∙ take-all _ _ (c .loop-instruction-test .left) in
-  rw (few, fit) (ap Some all)
+    let few : leb (length (c .args .instructions .now)) 256 ≡ true = le-leb _ _ (omega arith) in
+    let fit : all-fit (length (c .args .instructions .now)) (c .args .instructions .now) ≡ true = sym (c .if-not-all-fit .ensures tt) in
+    let all : listed (c .loop-instruction .list) ≡ c .args .instructions .now = c .loop-instruction .inv ∙ take-all _ _ (c .loop-instruction-test .left) in
+    rw (few, fit) (ap Some all)

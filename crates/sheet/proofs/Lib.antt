@@ -1,0 +1,11 @@
+pub mod Pieces
+pub mod Ranges
+pub mod Digits
+pub mod Colon
+pub mod Cursors
+pub mod Lookups
+pub mod Letters
+pub mod Parts
+pub mod Passes
+pub mod Fitting
+pub mod Assembling
