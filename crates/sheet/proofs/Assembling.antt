@@ -16,13 +16,13 @@ use Rattle.bounded.specs.Listed.{appended}
 use Rattle.bounded.specs.declared.full.Full.{Full}
 use Rattle.code.specs.declared.instruction.Instruction.{Instruction}
 use Rattle.sheet.specs.declared.draft.Draft.{Draft}
-use Rattle.sheet.specs.declared.fault.Fault.{Fault}
+use Rattle.lexer.specs.declared.fault.Fault.{Fault}
 use Rattle.sheet.specs.declared.label.Label.{Label}
 use Rattle.sheet.specs.declared.refusal.SheetRefusal.{SheetRefusal}
 use Rattle.sheet.specs.Assembly.{Assembly, line-taken}
-use Rattle.sheet.specs.Checks.{_>>=_}
+use Rattle.lexer.specs.Checks.{_>>=_}
 use Rattle.sheet.specs.Reading.{at-line, or-refused, assembled, resolved, resolved-onto}
-use Rattle.sheet.specs.Split.{onto, lines, uncons}
+use Rattle.lexer.specs.Split.{onto, lines, uncons}
 
 -- what was first, and what is left
 pub uncons-some : {A : Type 0} (xs ys : List A) (x : A) → (Some x, ys) ≡ uncons xs → xs ≡ x ∷ ys

@@ -22,23 +22,23 @@ use Rattle.code.specs.declared.register.Register.{Register}
 use Rattle.code.specs.Listing.{accepted}
 use Rattle.code.specs.Fits.{fits, all-fit, is-register, is-global, reaches}
 use Rattle.sheet.specs.declared.draft.Draft.{Draft}
-use Rattle.sheet.specs.declared.fault.Fault.{Fault}
-use Rattle.sheet.specs.declared.fault.Fault.the-variants.{BadOperand, BadLabel, TooManyInstructions}
+use Rattle.lexer.specs.declared.fault.Fault.{Fault}
+use Rattle.lexer.specs.declared.fault.Fault.the-variants.{BadOperand, BadLabel, TooManyInstructions}
 use Rattle.sheet.specs.declared.label.Label.{Label}
-use Rattle.sheet.specs.declared.label_name.LabelName.{LabelName}
+use Rattle.lexer.specs.declared.label_name.LabelName.{LabelName}
 use Rattle.sheet.specs.declared.mnemonic.Mnemonic.{Mnemonic}
 use Rattle.sheet.specs.declared.mnemonic.Mnemonic.the-variants.{Set, Proc, Load, Store, Add, Sub, Less, Jump, Zero, Push, Pop, Print, Call, Tail, CallCc, CallOnce, Forget, DynamicWind, Return, Stop}
 use Rattle.sheet.specs.declared.refusal.SheetRefusal.{SheetRefusal}
 use Rattle.sheet.specs.declared.unresolved.Unresolved.{Unresolved}
 use Rattle.sheet.specs.Assembly.{Assembly, empty, target, defined, added, by-kind, line-taken}
-use Rattle.sheet.specs.Bytes.{same}
-use Rattle.sheet.specs.Checks.{_>>=_}
-use Rattle.sheet.specs.Kinds.{Kind, kind, blank, comment, label as label-kind, instruction as instruction-kind, printable}
-use Rattle.sheet.specs.Names.{label-name}
-use Rattle.sheet.specs.Number.{magnitude, number}
-use Rattle.sheet.specs.Operands.{small, lettered, register, global, label, registers, with-operands, by-word, word-at, instruction}
+use Rattle.lexer.specs.Bytes.{same}
+use Rattle.lexer.specs.Checks.{_>>=_}
+use Rattle.lexer.specs.Kinds.{Kind, kind, blank, comment, label as label-kind, instruction as instruction-kind, printable}
+use Rattle.lexer.specs.Names.{label-name}
+use Rattle.lexer.specs.Number.{magnitude, number}
+use Rattle.sheet.specs.Operands.{small, lettered, register, global, label, registers, with-operands, by-word, instruction}
 use Rattle.sheet.specs.Reading.{or-refused, assembled, aimed, aimed-at, resolved-by, resolved, resolved-onto}
-use Rattle.sheet.specs.Split.{words}
+use Rattle.lexer.specs.Split.{words, word-at}
 use Rattle.sheet.specs.Words.{mnemonic, arity}
 use Rattle.sheet.proofs.Passes.{Passes, passes-any, passes-if, passes-bind, passes-weaker}
 

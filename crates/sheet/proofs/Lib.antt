@@ -1,10 +1,5 @@
-pub mod Pieces
-pub mod Ranges
-pub mod Digits
-pub mod Colon
-pub mod Cursors
 pub mod Lookups
-pub mod Letters
+pub mod Lettered
 pub mod Parts
 pub mod Passes
 pub mod Fitting

@@ -7,10 +7,10 @@ use lib.ListN.{length, drop, getD}
 use Rattle.std.specs.declared.option.Option.the-variants.{Some}
 use Rattle.std.proofs.shelf.Lists.{at-drop-more}
 use Rattle.sheet.specs.declared.label.Label.{Label}
-use Rattle.sheet.specs.declared.label_name.LabelName.{LabelName}
+use Rattle.lexer.specs.declared.label_name.LabelName.{LabelName}
 use Rattle.sheet.specs.declared.mnemonic.Mnemonic.{Mnemonic}
 use Rattle.sheet.specs.Assembly.{target}
-use Rattle.sheet.specs.Bytes.{same}
+use Rattle.lexer.specs.Bytes.{same}
 use Rattle.sheet.specs.Words.{spelled, spelling}
 
 module _ (w : List ℕ) (ms : List Mnemonic) (i : ℕ) (d : Mnemonic) (h : i < length ms) where

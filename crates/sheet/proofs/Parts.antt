@@ -11,9 +11,10 @@ use Rattle.std.specs.declared.option.Option.the-variants.{Some}
 use Rattle.std.specs.declared.result.Result.the-variants.{Err}
 use Rattle.std.proofs.shelf.Lists.{getD-drop, drop-drop}
 use Rattle.std.proofs.shelf.Tests.{eq-eqb, ne-eqb, cond-true, cond-false}
-use Rattle.sheet.specs.declared.fault.Fault.the-variants.{BadOperand}
+use Rattle.lexer.specs.declared.fault.Fault.the-variants.{BadOperand}
 use Rattle.sheet.specs.declared.mnemonic.Mnemonic.{Mnemonic}
-use Rattle.sheet.specs.Operands.{by-word, with-operands, word-at}
+use Rattle.lexer.specs.Split.{word-at}
+use Rattle.sheet.specs.Operands.{by-word, with-operands}
 use Rattle.sheet.specs.Words.{arity}
 
 module _ (o : Option Mnemonic) (m : Mnemonic) (ws : List (List ℕ)) (known : o ≡ Some m) where

@@ -4,7 +4,7 @@ use mathlib.Core.Bool.{Bool, true, cond}
 use Rattle.std.specs.declared.result.Result.{Result}
 use Rattle.std.specs.declared.result.Result.the-variants.{Ok, Err}
 use Rattle.std.proofs.shelf.Tests.{cond-both}
-use Rattle.sheet.specs.Checks.{_>>=_}
+use Rattle.lexer.specs.Checks.{_>>=_}
 
 abbrev pub Passes : {A E : Type 0} → (A → Type 0) → Result A E → Type 0
 Passes P (Ok a) = P a

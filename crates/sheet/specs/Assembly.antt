@@ -13,15 +13,15 @@ use Rattle.bounded.specs.Listed.{listed}
 use Rattle.cell.specs.declared.address.Address.{Address}
 use Rattle.sheet.specs.declared.assembly.Assembly.{Assembly as Table}
 use Rattle.sheet.specs.declared.draft.Draft.{Draft}
-use Rattle.sheet.specs.declared.fault.Fault.{Fault}
-use Rattle.sheet.specs.declared.fault.Fault.the-variants.{BadByte, BadLabel, TooManyInstructions}
+use Rattle.lexer.specs.declared.fault.Fault.{Fault}
+use Rattle.lexer.specs.declared.fault.Fault.the-variants.{BadByte, BadLabel, TooManyInstructions}
 use Rattle.sheet.specs.declared.label.Label.{Label}
-use Rattle.sheet.specs.declared.label_name.LabelName.{LabelName}
+use Rattle.lexer.specs.declared.label_name.LabelName.{LabelName}
 use Rattle.sheet.specs.declared.unresolved.Unresolved.{Unresolved}
-use Rattle.sheet.specs.Checks.{_>>=_}
-use Rattle.sheet.specs.Kinds.{Kind, kind, blank, comment, label, instruction, printable}
-use Rattle.sheet.specs.Bytes.{same}
-use Rattle.sheet.specs.Names.{label-name}
+use Rattle.lexer.specs.Checks.{_>>=_}
+use Rattle.lexer.specs.Kinds.{Kind, kind, blank, comment, label, instruction, printable}
+use Rattle.lexer.specs.Bytes.{same}
+use Rattle.lexer.specs.Names.{label-name}
 use Rattle.sheet.specs.Operands.{instruction as read-instruction}
 
 pub record Assembly : Type 0 where

@@ -1,9 +1,3 @@
-pub mod Checks
-pub mod Bytes
-pub mod Split
-pub mod Kinds
-pub mod Number
-pub mod Names
 pub mod Words
 pub mod Operands
 pub mod Assembly

@@ -3,7 +3,7 @@ use Prim.Native.Nat.{ℕ, _+_}
 use mathlib.Core.Bool.{cond}
 use mathlib.Core.List.{List, [], _∷_}
 use lib.Dec.{eqb, ltb}
-use lib.ListN.{length, getD, drop}
+use lib.ListN.{length}
 use Rattle.std.specs.Options.{okOr}
 use Rattle.std.specs.declared.option.Option.{Option}
 use Rattle.std.specs.declared.option.Option.the-variants.{Some, None}
@@ -14,16 +14,16 @@ use Rattle.code.specs.declared.register.Register.{Register}
 use Rattle.code.specs.declared.global.Global.{Global}
 use Rattle.code.specs.declared.instruction.Instruction.{Instruction}
 use Rattle.code.specs.declared.instruction.Instruction.the-variants as I
-use Rattle.sheet.specs.declared.fault.Fault.{Fault}
-use Rattle.sheet.specs.declared.fault.Fault.the-variants.{BadOperand, UnknownWord}
-use Rattle.sheet.specs.declared.label_name.LabelName.{LabelName}
+use Rattle.lexer.specs.declared.fault.Fault.{Fault}
+use Rattle.lexer.specs.declared.fault.Fault.the-variants.{BadOperand, UnknownWord}
+use Rattle.lexer.specs.declared.label_name.LabelName.{LabelName}
 use Rattle.sheet.specs.declared.mnemonic.Mnemonic.{Mnemonic}
 use Rattle.sheet.specs.declared.mnemonic.Mnemonic.the-variants.{Set, Proc, Load, Store, Add, Sub, Less, Jump, Zero, Push, Pop, Print, Call, Tail, CallCc, CallOnce, Forget, DynamicWind, Return, Stop}
 use Rattle.sheet.specs.declared.unresolved.Unresolved.{Unresolved}
-use Rattle.sheet.specs.Checks.{_>>=_}
-use Rattle.sheet.specs.Number.{magnitude, number}
-use Rattle.sheet.specs.Names.{label-name}
-use Rattle.sheet.specs.Split.{words}
+use Rattle.lexer.specs.Checks.{_>>=_}
+use Rattle.lexer.specs.Number.{magnitude, number}
+use Rattle.lexer.specs.Names.{label-name}
+use Rattle.lexer.specs.Split.{words, word-at}
 use Rattle.sheet.specs.Words.{mnemonic, arity}
 
 -- Operands.
@@ -87,10 +87,6 @@ with-operands Forget a b c = register a >>= λ r. plain (I.Forget r)
 with-operands DynamicWind a b c = registers a b c >>= λ r. plain (I.DynamicWind (r .0) (r .1) (r .2))
 with-operands Return a b c = plain I.Return
 with-operands Stop a b c = plain I.Stop
-
--- the word at an index; an operand that is not there is empty
-abbrev pub word-at : List (List ℕ) → ℕ → List ℕ
-word-at ws i = getD ws i []
 
 -- first the word itself, then the number of operands, then the operands from the left
 abbrev pub by-word : Option Mnemonic → List (List ℕ) → Result Unresolved Fault

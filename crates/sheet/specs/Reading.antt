@@ -12,15 +12,15 @@ use Rattle.cell.specs.declared.address.Address.{Address}
 use Rattle.code.specs.declared.instruction.Instruction.{Instruction}
 use Rattle.code.specs.declared.instruction.Instruction.the-variants.{Set, Proc, Load, Store, Add, Sub, Less, Jump, Zero, Push, Pop, Print, Call, Tail, CallCc, CallOnce, Forget, DynamicWind, Return, Stop}
 use Rattle.sheet.specs.declared.draft.Draft.{Draft}
-use Rattle.sheet.specs.declared.fault.Fault.{Fault}
-use Rattle.sheet.specs.declared.fault.Fault.the-variants as F
+use Rattle.lexer.specs.declared.fault.Fault.{Fault}
+use Rattle.lexer.specs.declared.fault.Fault.the-variants as F
 use Rattle.sheet.specs.declared.label.Label.{Label}
-use Rattle.sheet.specs.declared.label_name.LabelName.{LabelName}
+use Rattle.lexer.specs.declared.label_name.LabelName.{LabelName}
 use Rattle.sheet.specs.declared.refusal.SheetRefusal.{SheetRefusal}
 use Rattle.sheet.specs.declared.refusal.SheetRefusal.the-variants.{TooLong, BadByte, UnknownWord, BadOperand, NumberOutOfRange, BadLabel, MissingLabel, TooManyInstructions, NoInstruction}
 use Rattle.sheet.specs.Assembly.{Assembly, empty, target, line-taken}
-use Rattle.sheet.specs.Checks.{_>>=_}
-use Rattle.sheet.specs.Split.{lines}
+use Rattle.lexer.specs.Checks.{_>>=_}
+use Rattle.lexer.specs.Split.{lines}
 
 -- Refusals.
 

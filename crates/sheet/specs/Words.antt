@@ -7,7 +7,7 @@ use Rattle.std.specs.declared.option.Option.{Option}
 use Rattle.std.specs.declared.option.Option.the-variants.{Some, None}
 use Rattle.sheet.specs.declared.mnemonic.Mnemonic.{Mnemonic}
 use Rattle.sheet.specs.declared.mnemonic.Mnemonic.the-variants.{Set, Proc, Load, Store, Add, Sub, Less, Jump, Zero, Push, Pop, Print, Call, Tail, CallCc, CallOnce, Forget, DynamicWind, Return, Stop}
-use Rattle.sheet.specs.Bytes.{same}
+use Rattle.lexer.specs.Bytes.{same}
 
 -- how each is spelled
 abbrev pub spelling : Mnemonic → List ℕ

@@ -1,21 +1,21 @@
 //! An instruction line.
 ghost use mathlib.Core.Path.{_≡_};
 ghost use Rattle.sheet.specs.Operands.{plain as plains, waiting as waits, with-operands, instruction as instructions, unknown};
-use crate::fault::Fault;
-use crate::label_name::LabelName;
 use crate::mnemonic::Mnemonic;
-use crate::number::number;
 use crate::operands::global;
 use crate::operands::label;
 use crate::operands::register;
 use crate::operands::registers;
-use crate::split::space_count;
 use crate::unresolved::Unresolved;
 use crate::vocabulary::arity;
 use crate::vocabulary::mnemonic;
-use crate::words::Words;
 use cell::address::Address;
 use code::instruction::Instruction;
+use lexer::fault::Fault;
+use lexer::label_name::LabelName;
+use lexer::number::number;
+use lexer::split::space_count;
+use lexer::words::Words;
 
 /// Stands for a label's address until that is known.
 const UNKNOWN: Address = Address(0);

@@ -1,7 +1,7 @@
 //! A label with its address.
 
-use crate::label_name::LabelName;
 use cell::address::Address;
+use lexer::label_name::LabelName;
 
 /// A label, and the address of the instruction that follows it.
 #[derive(Clone, Copy)]

@@ -1,10 +1,10 @@
 //! Labels looked up by their name.
 ghost use mathlib.Core.Path.{_≡_};
 ghost use Rattle.sheet.specs.Assembly.{target as targets};
-use crate::bytes::same;
 use crate::label::Label;
-use crate::label_name::LabelName;
 use cell::address::Address;
+use lexer::bytes::same;
+use lexer::label_name::LabelName;
 
 /// Where a label is, if it is defined.
 pub fn target(labels: &[Label], name: LabelName) -> Option<Address>

@@ -2,14 +2,14 @@
 ghost use Prim.Native.Nat.{_<_};
 ghost use mathlib.Core.Path.{_≡_};
 ghost use Rattle.sheet.specs.Operands.{lettered as letters-read, register as registers-read, global as globals-read, label as labels-read, registers as three-read};
-use crate::fault::Fault;
-use crate::label_name::LabelName;
-use crate::names::name;
-use crate::number::magnitude;
 use code::fits::GLOBALS;
 use code::fits::REGISTERS;
 use code::global::Global;
 use code::register::Register;
+use lexer::fault::Fault;
+use lexer::label_name::LabelName;
+use lexer::names::name;
+use lexer::number::magnitude;
 
 /// A letter, and then a number below a limit.
 fn lettered(letter: u8, limit: u8, word: &[u8]) -> Result<u8, Fault>

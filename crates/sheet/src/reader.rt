@@ -4,14 +4,14 @@ ghost use lib.ListN.{length};
 ghost use mathlib.Core.Path.{_≡_};
 ghost use Rattle.code.specs.Listing.{instructions-of};
 ghost use Rattle.sheet.specs.Assembly.{empty, assembly-of};
-ghost use Rattle.sheet.specs.Checks.{ok-mapped};
+ghost use Rattle.lexer.specs.Checks.{ok-mapped};
 ghost use Rattle.sheet.specs.Reading.{assembled, reading, read-into};
-ghost use Rattle.sheet.specs.Split.{lines};
+ghost use Rattle.lexer.specs.Split.{lines};
 use crate::assembly::Assembly;
-use crate::lines::Lines;
 use crate::refusal::SheetRefusal;
 use crate::resolve::resolve_all;
 use code::code::Code;
+use lexer::lines::Lines;
 
 /// How many bytes a sheet may have.
 pub const MOST_BYTES: usize = 16384;

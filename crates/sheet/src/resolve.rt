@@ -4,7 +4,7 @@ ghost use lib.ListN.{length};
 ghost use mathlib.Core.List.{[]};
 ghost use mathlib.Core.Path.{_≡_};
 ghost use Rattle.bounded.specs.Listed.{listed};
-ghost use Rattle.sheet.specs.Checks.{ok-mapped};
+ghost use Rattle.lexer.specs.Checks.{ok-mapped};
 ghost use Rattle.sheet.specs.Reading.{aimed as aims, resolved, resolved-onto};
 use crate::draft::Draft;
 use crate::label::Label;

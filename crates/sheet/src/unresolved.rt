@@ -1,7 +1,7 @@
 //! An instruction before the labels are known.
 
-use crate::label_name::LabelName;
 use code::instruction::Instruction;
+use lexer::label_name::LabelName;
 
 /// An instruction, and the label whose address it waits for, if it names one.
 #[derive(Clone, Copy)]

@@ -1,8 +1,8 @@
 //! How the words are spelled, and how many operands each has.
 ghost use mathlib.Core.Path.{_≡_};
 ghost use Rattle.sheet.specs.Words.{spelling as spellings, arity as arities, mnemonic as mnemonics};
-use crate::bytes::same;
 use crate::mnemonic::Mnemonic;
+use lexer::bytes::same;
 
 const VOCABULARY: [Mnemonic; 20] = [
     Mnemonic::Set,

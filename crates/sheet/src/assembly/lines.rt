@@ -1,25 +1,25 @@
 //! Lines taken into the tables, one after the other.
 ghost use mathlib.Core.Path.{_≡_};
 ghost use Rattle.sheet.specs.Assembly.{empty, assembly-of, defined, added, line-taken};
-ghost use Rattle.sheet.specs.Checks.{after};
-ghost use Rattle.sheet.specs.Names.{label-name};
+ghost use Rattle.lexer.specs.Checks.{after};
+ghost use Rattle.lexer.specs.Names.{label-name};
 ghost use Rattle.bounded.specs.Listed.{listed};
 use crate::assembly::Assembly;
 use crate::draft::Draft;
-use crate::fault::Fault;
 use crate::instruction_line::instruction;
-use crate::kinds::kind;
-use crate::kinds::printable;
 use crate::label::Label;
-use crate::label_name::LabelName;
-use crate::label_name::MOST_LETTERS;
 use crate::labels::target;
-use crate::line::Line;
-use crate::names::name;
 use crate::unresolved::Unresolved;
 use bounded::bounded::Bounded;
 use cell::address::Address;
 use code::instruction::Instruction;
+use lexer::fault::Fault;
+use lexer::kinds::kind;
+use lexer::kinds::printable;
+use lexer::label_name::LabelName;
+use lexer::label_name::MOST_LETTERS;
+use lexer::line::Line;
+use lexer::names::name;
 
 impl Assembly {
     pub fn new() -> Self

@@ -1,8 +1,8 @@
 //! A refusal by its number and its line.
 ghost use mathlib.Core.Path.{_≡_};
 ghost use Rattle.sheet.specs.Reading.{at-line, refusal-number, refusal-line};
-use crate::fault::Fault;
 use crate::refusal::SheetRefusal;
+use lexer::fault::Fault;
 
 impl SheetRefusal {
     /// A fault that was met in a line.

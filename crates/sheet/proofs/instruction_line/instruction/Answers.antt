@@ -4,11 +4,11 @@ use mathlib.Core.List.{List}
 use native.Mathlib.Omega.{arith}
 use lib.ListN.{length, drop}
 use Rattle.std.specs.declared.option.Option.the-variants.{Some}
-use Rattle.sheet.specs.Operands.{word-at}
-use Rattle.sheet.specs.Split.{words, words-left}
+use Rattle.lexer.specs.Split.{word-at}
+use Rattle.lexer.specs.Split.{words, words-left}
 use Rattle.sheet.specs.Words.{mnemonic, arity}
 use Rattle.sheet.proofs.Parts.{miscounted, counted, word-after}
-use Rattle.sheet.proofs.Pieces.{word-count}
+use Rattle.lexer.proofs.Pieces.{word-count}
 use Rattle.sheet.proofs.instruction_line.instruction.Needs as need
 
 pub returns-then-space-count-arity : need.returns-then-space-count-arity

@@ -7,7 +7,7 @@ use lib.Dec.{ltb}
 use lib.ListN.{length}
 use Rattle.std.proofs.shelf.Tests.{lt-ltb, le-ltb}
 use Rattle.sheet.specs.Operands.{small}
-use Rattle.sheet.proofs.Letters.{lettered-first}
+use Rattle.sheet.proofs.Lettered.{lettered-first}
 use Rattle.sheet.proofs.operands.lettered.Needs as need
 
 pub returns-in-rest : need.returns-in-rest

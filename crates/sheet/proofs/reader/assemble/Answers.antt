@@ -6,7 +6,7 @@ use lib.ListN.{length}
 use Rattle.std.specs.declared.result.Result.the-variants.{Err}
 use Rattle.sheet.specs.Assembly.{empty, assembly-of}
 use Rattle.sheet.specs.Reading.{assembled}
-use Rattle.sheet.specs.Split.{lines, lines-left}
+use Rattle.lexer.specs.Split.{lines, lines-left}
 use Rattle.sheet.proofs.Assembling.{uncons-some, uncons-none, line-more, line-stop, few-lines}
 use Rattle.sheet.proofs.reader.assemble.Needs as need
 

@@ -3,7 +3,7 @@ use mathlib.Core.Path.{_≡_}
 use lib.ListN.{length}
 use Rattle.sheet.specs.Assembly.{empty, assembly-of}
 use Rattle.sheet.specs.Reading.{assembled}
-use Rattle.sheet.specs.Split.{lines, lines-left}
+use Rattle.lexer.specs.Split.{lines, lines-left}
 use Rattle.sheet.proofs.reader.assemble.Given as given
 
 abbrev pub Inv-loop-line : given.InvT-loop-line

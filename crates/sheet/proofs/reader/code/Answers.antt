@@ -10,7 +10,7 @@ use Rattle.code.specs.Listing.{accepted}
 use Rattle.code.specs.declared.instruction.Instruction.{Instruction}
 use Rattle.sheet.specs.Assembly.{Assembly, assembly-of}
 use Rattle.sheet.specs.Reading.{resolved-onto}
-use Rattle.sheet.specs.Split.{lines}
+use Rattle.lexer.specs.Split.{lines}
 use Rattle.sheet.proofs.Fitting.{lines-well, code-fits, accepted-all}
 use Rattle.sheet.proofs.reader.code.Needs as need
 

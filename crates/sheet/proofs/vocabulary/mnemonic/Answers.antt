@@ -1,7 +1,7 @@
 use mathlib.Core.Path.{sym, _∙_, refl, ap}
 use lib.ListN.{length}
 use Rattle.std.proofs.shelf.Lists.{at-drop-all}
-use Rattle.sheet.specs.Bytes.{same}
+use Rattle.lexer.specs.Bytes.{same}
 use Rattle.sheet.specs.Words.{spelled, vocabulary}
 use Rattle.sheet.specs.declared.mnemonic.Mnemonic.the-variants.{Stop}
 use Rattle.sheet.proofs.Lookups.{spelled-more, spelled-here}
