@@ -1,0 +1,4 @@
+pub mod Limits
+pub mod Courses
+pub mod Counts
+pub mod Reached
