@@ -15,7 +15,7 @@ use Rattle.machine.specs.Apply.{Event}
 use Rattle.machine.specs.Step.{Outcome, went, finished, refused, step}
 use Rattle.machine.specs.Course.{Course, after-step, follow, course, further, go-on}
 use Rattle.laws.specs.Limits.{Is-limit, Wider}
-use Rattle.laws.specs.Courses.{Begins, Level, Same-count, One-output, Bound-by, Ends-alike, Courses-agree, Portions-join}
+use Rattle.laws.specs.Courses.{Begins, Level, Same-count, One-output, No-longer, Ends-alike, Courses-agree, Portions-join}
 use Rattle.laws.proofs.Limits.{Alike, alike, same-end, same-finish, wider-step}
 
 -- a course that makes no step stands where it was
@@ -77,26 +77,51 @@ one-output l m code (suc n) (suc k) s h = go (step l code s) (step m code s) (al
 some-is : (d e : End) → _≡_ {A = Option End} (Some d) (Some e) → d ≡ e
 some-is d e p = cc
 
--- two ends at the same step
-both-end : (s t : State) (e d : End) → _≡_ {A = Option End} (Some d) (Some e) → (x : End) → _≡_ {A = Option End} (Some d) (Some x) → x ≡ e
-both-end s t e d p x q = sym (some-is d x q) ∙ some-is d e p
+none-some : (e : End) → _≡_ {A = Option End} None (Some e) → ⊥
+none-some e p = let z : _≡_ {A = ℕ} 0 1 = cc in omega arith
+
+pub no-longer : No-longer
+no-longer l m code zero k s e p q = absurd (none-some e p)
+no-longer l m code (suc n) zero s e p q = omega arith
+no-longer l m code (suc n) (suc k) s e p q = go (step l code s) (step m code s) (alike l m code s) p (no-longer l m code n k)
+  where
+    go : (o o′ : Outcome) → Alike o o′ → follow o s (course l code n) .end ≡ Some e
+        → ((t : State) (d : End) → course l code n t .end ≡ Some d → (Is-limit d → ⊥) → course m code k t .steps ≤ course l code n t .steps)
+        → follow o′ s (course m code k) .steps ≤ follow o s (course l code n) .steps
+    go (went t b es) (went u c fs) a h ih =
+        let P : State → Type 0 = λ v. course m code k v .steps ≤ course l code n t .steps in
+        omega (arith, subst P (a .0) (ih t e h q))
+    go (went t b es) (finished u) a h ih = absurd a
+    go (went t b es) (refused d) a h ih = omega arith
+    go (finished t) (went u c fs) a h ih = absurd a
+    go (finished t) (finished u) a h ih = omega arith
+    go (finished t) (refused d) a h ih = absurd a
+    go (refused d) (went u c fs) a h ih = let P : End → Type 0 = Is-limit in absurd (q (subst P (some-is d e h) a))
+    go (refused d) (finished u) a h ih = absurd a
+    go (refused d) (refused x) a h ih = omega arith
 
 pub ends-alike : Ends-alike
-ends-alike l m code zero k s e w p q = absurd (let z : _≡_ {A = ℕ} 0 1 = cc in omega arith)
-ends-alike l m code (suc n) zero s e w p q = record { no-more = omega arith; alike = λ d i. absurd (let z : _≡_ {A = ℕ} 0 1 = cc in omega arith) }
-ends-alike l m code (suc n) (suc k) s e w p q = go (step l code s) refl p (ends-alike l m code n k)
+ends-alike l m code zero k s e d w p q r = absurd (none-some e p)
+ends-alike l m code (suc n) zero s e d w p q r = absurd (none-some d r)
+ends-alike l m code (suc n) (suc k) s e d w p q r = go (step l code s) refl p r (ends-alike l m code n k)
   where
-    go : (o : Outcome) → step l code s ≡ o → follow o s (course l code n) .end ≡ Some e
-        → ((t : State) (d : End) → Wider l m → course l code n t .end ≡ Some d → (Is-limit d → ⊥) → Bound-by d (course l code n t) (course m code k t))
-        → Bound-by e (follow o s (course l code n)) (follow (step m code s) s (course m code k))
-    go (went t b es) f h ih =
-        let i : Bound-by e (course l code n t) (course m code k t) = ih t e w h q in
-        rw (wider-step l m code s t b es w f) (record { no-more = omega (arith, i .no-more); alike = λ d x. (i .alike d x .0, ap suc (i .alike d x .1)) })
-    go (finished t) f h ih =
-        rw (same-finish l m code s t f) (record { no-more = omega arith; alike = λ d x. (both-end s t e Finished h d x, refl) })
-    go (refused d) f h ih =
-        let P : End → Type 0 = λ x. Is-limit x → ⊥ in
-        rw (same-end l m code s d (subst P (sym (some-is d e h)) q) f) (record { no-more = omega arith; alike = λ x y. (both-end s s e d h x y, refl) })
+    go : (o : Outcome) → step l code s ≡ o → follow o s (course l code n) .end ≡ Some e → follow (step m code s) s (course m code k) .end ≡ Some d
+        → ((t : State) (e d : End) → Wider l m → course l code n t .end ≡ Some e → (Is-limit e → ⊥) → course m code k t .end ≡ Some d → (d ≡ e) × (course m code k t .steps ≡ course l code n t .steps))
+        → (d ≡ e) × (follow (step m code s) s (course m code k) .steps ≡ follow o s (course l code n) .steps)
+    go (went t b es) f h i ih =
+        let x = wider-step l m code s t b es w f in
+        let P : Outcome → Type 0 = λ o. follow o s (course m code k) .end ≡ Some d in
+        let y = ih t e d w h q (subst P x i) in
+        rw x (y .0, ap suc (y .1))
+    go (finished t) f h i ih =
+        let x = same-finish l m code s t f in
+        let P : Outcome → Type 0 = λ o. follow o s (course m code k) .end ≡ Some d in
+        rw x (sym (some-is Finished d (subst P x i)) ∙ some-is Finished e h, refl)
+    go (refused c) f h i ih =
+        let R : End → Type 0 = λ x. Is-limit x → ⊥ in
+        let x = same-end l m code s c (subst R (sym (some-is c e h)) q) f in
+        let P : Outcome → Type 0 = λ o. follow o s (course m code k) .end ≡ Some d in
+        rw x (sym (some-is c d (subst P x i)) ∙ some-is c e h, refl)
 
 -- Portions.
 
@@ -123,5 +148,42 @@ portions-join l code (suc n) k s = rw suc-add (go (step l code s) (portions-join
     go (finished t) ih = refl
     go (refused d) ih = refl
 
+-- A course of as many steps as another made.
+
+module _ (l : Limits) (code : List Instruction) where
+  -- it makes them all
+  pub steps-made : (n : ℕ) (s : State) → course l code (course l code n s .steps) s .steps ≡ course l code n s .steps
+  steps-made zero s = refl
+  steps-made (suc n) s = go (step l code s) refl (steps-made n)
+    where
+      go : (o : Outcome) → step l code s ≡ o → ((t : State) → course l code (course l code n t .steps) t .steps ≡ course l code n t .steps)
+          → course l code (follow o s (course l code n) .steps) s .steps ≡ follow o s (course l code n) .steps
+      go (went t b es) e ih = ap (λ o. follow o s (course l code (course l code n t .steps)) .steps) e ∙ ap suc (ih t)
+      go (finished t) e ih = ap (λ o. follow o s (course l code zero) .steps) e
+      go (refused d) e ih = refl
+
+  -- a course that has not ended made all that it could
+  pub all-made : (n : ℕ) (s : State) → course l code n s .end ≡ None → course l code n s .steps ≡ n
+  all-made zero s h = refl
+  all-made (suc n) s h = go (step l code s) h (all-made n)
+    where
+      go : (o : Outcome) → follow o s (course l code n) .end ≡ None → ((t : State) → course l code n t .end ≡ None → course l code n t .steps ≡ n)
+          → follow o s (course l code n) .steps ≡ suc n
+      go (went t b es) h ih = ap suc (ih t h)
+      go (finished t) h ih = absurd (none-some Finished (sym h))
+      go (refused d) h ih = absurd (none-some d (sym h))
+
+  -- one that has ended had done so by the step after those that it made
+  pub ended-there : (n : ℕ) (s : State) (e : End) → course l code n s .end ≡ Some e → course l code (suc (course l code n s .steps)) s .end ≡ Some e
+  ended-there zero s e h = absurd (none-some e h)
+  ended-there (suc n) s e h = go (step l code s) refl h (ended-there n)
+    where
+      go : (o : Outcome) → step l code s ≡ o → follow o s (course l code n) .end ≡ Some e
+          → ((t : State) (e : End) → course l code n t .end ≡ Some e → course l code (suc (course l code n t .steps)) t .end ≡ Some e)
+          → course l code (suc (follow o s (course l code n) .steps)) s .end ≡ Some e
+      go (went t b es) f h ih = ap (λ o. follow o s (course l code (suc (course l code n t .steps))) .end) f ∙ ih t e h
+      go (finished t) f h ih = ap (λ o. follow o s (course l code (suc zero)) .end) f ∙ h
+      go (refused d) f h ih = ap (λ o. follow o s (course l code zero) .end) f ∙ h
+
 pub courses-agree : Courses-agree
-courses-agree = record { same-count = same-count; one-output = one-output; ends-alike = ends-alike }
+courses-agree = record { same-count = same-count; one-output = one-output; no-longer = no-longer; ends-alike = ends-alike }

@@ -8,3 +8,4 @@ pub mod Steps
 pub mod Limits
 pub mod Courses
 pub mod Counts
+pub mod Served

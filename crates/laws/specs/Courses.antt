@@ -32,20 +32,23 @@ One-output =
     (l m : Limits) (code : List Instruction) (n k : ℕ) (s : State)
     → course l code n s .steps ≤ course m code k s .steps → Begins (course l code n s .output) (course m code k s .output)
 
--- of two courses, of which the first ended with e: the second makes no more steps, and if it ends, it ends so and there
-pub record Bound-by (e : End) (r q : Course) : Type 0 where
-  pub no-more : q .steps ≤ r .steps
-  pub alike : (d : End) → q .end ≡ Some d → (d ≡ e) × (q .steps ≡ r .steps)
+-- where a course has ended by an end that is no limit's, no course makes more steps
+abbrev pub No-longer : Type 0
+No-longer =
+    (l m : Limits) (code : List Instruction) (n k : ℕ) (s : State) (e : End)
+    → course l code n s .end ≡ Some e → (Is-limit e → ⊥) → course m code k s .steps ≤ course l code n s .steps
 
--- an end that is no limit's binds every course whose limits are nowhere smaller
+-- and one whose limits are nowhere smaller ends only alike, after equally many steps
 abbrev pub Ends-alike : Type 0
 Ends-alike =
-    (l m : Limits) (code : List Instruction) (n k : ℕ) (s : State) (e : End)
-    → Wider l m → course l code n s .end ≡ Some e → (Is-limit e → ⊥) → Bound-by e (course l code n s) (course m code k s)
+    (l m : Limits) (code : List Instruction) (n k : ℕ) (s : State) (e d : End)
+    → Wider l m → course l code n s .end ≡ Some e → (Is-limit e → ⊥) → course m code k s .end ≡ Some d
+    → (d ≡ e) × (course m code k s .steps ≡ course l code n s .steps)
 
 pub record Courses-agree : Type 0 where
   pub same-count : Same-count
   pub one-output : One-output
+  pub no-longer : No-longer
   pub ends-alike : Ends-alike
 
 -- two portions in a row are one course

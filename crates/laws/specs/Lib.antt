@@ -2,3 +2,4 @@ pub mod Limits
 pub mod Courses
 pub mod Counts
 pub mod Reached
+pub mod Calls

@@ -2,4 +2,5 @@
 //! what the law promises. The statements are in `specs/`, in the machine's own words.
 //! It rests on `machine`, for the definition, and on `cell` and `code`, for what the machine is about.
 
+pub mod calls;
 pub mod laws;
