@@ -9,3 +9,4 @@ pub mod Limits
 pub mod Courses
 pub mod Counts
 pub mod Served
+pub mod Computed

@@ -3,3 +3,4 @@ pub mod Courses
 pub mod Counts
 pub mod Reached
 pub mod Calls
+pub mod Examples

@@ -3,4 +3,5 @@
 //! It rests on `machine`, for the definition, and on `cell` and `code`, for what the machine is about.
 
 pub mod calls;
+pub mod examples;
 pub mod laws;
