@@ -16,13 +16,15 @@ use Rattle.std.proofs.shelf.Tests.{eqb-true, eq-eqb, ltb-true}
 use Rattle.cell.specs.declared.name.Name.{Name}
 use Rattle.cell.specs.declared.value.Value.{Value}
 use Rattle.cell.specs.declared.frame.Frame.{Frame}
-use Rattle.cell.specs.declared.frame.Frame.the-variants.{Out}
+use Rattle.cell.specs.declared.frame.Frame.the-variants.{Saved, Back, Mark, In, Out, Hold, Toss, Enter}
 use Rattle.cell.specs.declared.wind.Wind.{Wind}
 use Rattle.code.specs.declared.instruction.Instruction.{Instruction}
 use Rattle.machine.specs.declared.act.Act.{Act}
 use Rattle.machine.specs.declared.next.Next.the-variants.{Go}
 use Rattle.machine.specs.declared.end.End.{End}
 use Rattle.machine.specs.declared.end.End.the-variants.{WrongFrame, NotHeld}
+use Rattle.machine.specs.declared.frame_move.FrameMove.{FrameMove}
+use Rattle.machine.specs.declared.frame_move.FrameMove.the-variants.{Keep, Push, PushBoth, Pop, Replace, Restore}
 use Rattle.machine.specs.declared.wind_move.WindMove.{WindMove}
 use Rattle.machine.specs.declared.wind_move.WindMove.the-variants.{Stay, Open, Reenter, Leave}
 use Rattle.machine.specs.declared.mode.Mode.{Mode}
@@ -36,11 +38,12 @@ use Rattle.machine.specs.Throwing.{shared, unwind, throw}
 use Rattle.machine.specs.Plan.{plan, plan-in}
 use Rattle.machine.specs.Course.{Course, course}
 use Rattle.laws.specs.Counts.{Conserved, Counts-conserved, Counts-within-steps, All-names-made, In-force, Balanced, Winds-balanced}
-use Rattle.laws.specs.Reached.{Within, Limits-kept, Some-wind, Plan-end, Unreached, Never-reached}
-use Rattle.laws.proofs.Counting.{one-if, count, nth-below}
+use Rattle.laws.specs.Reached.{Within, Limits-kept, Some-wind, Plan-end, Unreached, Never-reached, At-rest, No-throw, bodies, Winds-stand, Right-winds}
+use Rattle.laws.proofs.Counting.{one-if, count, length-map, nth-below}
 use Rattle.laws.proofs.Named.{find-all, find-none}
 use Rattle.laws.proofs.Planned.{Acts, Planned, rested, thrown, Rested, writes, pushes, pushes-both, pops-one, passes-mark, captures-many, captures-once, forgets, opens, closes, tosses, reenters, Thrown, throws-out, throws-in, lands, planned}
-use Rattle.laws.proofs.Sound.{Fits, Rests}
+use Rattle.laws.proofs.Sound.{Sound, Fits, Rests}
+use Rattle.laws.proofs.Keeps.{winds-saved, at-rest}
 use Rattle.laws.proofs.Steps.{Reached, Traced, Good, acts-of, good-course, start-reached}
 
 -- what holds of the states that can be reached holds of every course from the start
@@ -180,6 +183,66 @@ module _ (l : Limits) (s : State) (k : Reached l s) where
     plan-ends = plan-ends;
     next-name-free = find-none capture-name (s .held) (s .counts .made + 1) (k .sound .names (s .counts .made + 1) .1 (omega arith));
   }
+
+-- Which winds are in force.
+
+bodies-winds : (held : List Capture) (fs : List Frame) (ws : List ℕ) → Fits held fs ws → No-throw fs → length ws ≡ bodies fs
+bodies-winds held [] [] h p = refl
+bodies-winds held [] (w ∷ ws) h p = absurd h
+bodies-winds held (Saved v ∷ fs) ws h p = bodies-winds held fs ws h p
+bodies-winds held (Back q ∷ fs) ws h p = bodies-winds held fs ws h p
+bodies-winds held (Mark n ∷ fs) ws h p = bodies-winds held fs ws h p
+bodies-winds held (In before body then ∷ fs) ws h p = bodies-winds held fs ws h p
+bodies-winds held (Out ∷ fs) [] h p = absurd h
+bodies-winds held (Out ∷ fs) (w ∷ ws) h p = ap suc (bodies-winds held fs ws h p)
+bodies-winds held (Hold v ∷ fs) ws h p = bodies-winds held fs ws h p
+bodies-winds held (Toss n v ∷ fs) ws h p = absurd p
+bodies-winds held (Enter n v ∷ fs) ws h p = absurd p
+
+module _ (s : State) (k : Sound s) where
+  -- the winds in force are those saved, where frames are restored
+  abbrev Landed : FrameMove → Type 0
+  Landed Keep = Unit {0}
+  Landed (Push f) = Unit {0}
+  Landed (PushBoth f g) = Unit {0}
+  Landed Pop = Unit {0}
+  Landed (Replace f) = Unit {0}
+  Landed (Restore n) = (c : Capture) → find capture-name (s .held) (n .0) ≡ Some c → wind-numbers (s .winds) ≡ wind-numbers (c .winds)
+
+  landed-rested : (a : Act) → Rested s a → Landed (a .frames)
+  landed-rested a (writes w m line x y) = tt
+  landed-rested a (pushes f p x y) = tt
+  landed-rested a (pushes-both f g p x y z u) = tt
+  landed-rested a (pops-one f fs w m e x y z) = tt
+  landed-rested a (passes-mark n c fs e f) = tt
+  landed-rested a (captures-many p q) = tt
+  landed-rested a (captures-once p q) = tt
+  landed-rested a (forgets n c p f) = tt
+  landed-rested a (opens before body then fs e) = tt
+  landed-rested a (closes w ws fs e f x) = tt
+  landed-rested a (tosses n v fs e x) = tt
+  landed-rested a (reenters n v fs c next e f g x) = tt
+
+  landed : (a : Act) → Planned s a → Landed (a .frames)
+  landed a (rested q p) = landed-rested a p
+  landed a (thrown n v m (throws-out c w ws e f)) = tt
+  landed a (thrown n v m (throws-in c w e u)) = tt
+  landed a (thrown n v m (lands c e u z)) = λ d f.
+      let i : c ≡ d = cc in
+      let P : Capture → Type 0 = λ x. wind-numbers (s .winds) ≡ wind-numbers (x .winds) in
+      subst P i (winds-saved s k n c e u z)
+
+  winds-stand : Winds-stand s
+  winds-stand = record {
+    as-bodies = λ q p.
+        sym (length-map wind-number (s .winds)) ∙ bodies-winds (s .held) (s .frames) (wind-numbers (s .winds)) (at-rest s k (s .mode) _ q (k .fits)) p;
+    as-saved = λ code a n c p e f.
+        let P : FrameMove → Type 0 = Landed in
+        subst P e (landed a (acts-of (Planned s) (plan code s) a p (planned s (k .known) code))) c f;
+  }
+
+pub right-winds : Right-winds
+right-winds l code numbers n = winds-stand (course l code n (start numbers) .state) (from-start l code numbers n .0 .sound)
 
 pub never-reached : Never-reached
 never-reached l code numbers n = unreached l (course l code n (start numbers) .state) (from-start l code numbers n .0)

@@ -34,11 +34,12 @@ use Rattle.machine.specs.Throwing.{shared, common}
 use Rattle.machine.specs.Plan.{plan}
 use Rattle.machine.specs.Apply.{below, replaced, saved-frames, frames-after, winds-after}
 use Rattle.laws.specs.Counts.{Made, Frame-made}
+use Rattle.laws.specs.Reached.{At-rest}
 use Rattle.laws.proofs.Counting.{Numbered, numbered-less, count, count-reverse, Prefix, prefix-count, prefix-next, prefix-common, same-common, map-reverse, length-map, nth-map-some, nth-map-none}
 use Rattle.laws.proofs.Named.{find-all}
 use Rattle.laws.proofs.Frames.{Passed, Walk, walk-push, walk-pop}
-use Rattle.laws.proofs.Planned.{Planned, rested, thrown, Rested, writes, pushes, pushes-both, pops-one, passes-mark, captures-many, captures-once, forgets, opens, closes, tosses, reenters, Thrown, throws-out, throws-in, lands, At-rest, Holds}
-use Rattle.laws.proofs.Sound.{Entering, Anything, Fits, Rests, Capture-sound, Sound, Owned, Entered, Enters-made, Made-by, Frame-made-by, Legal, still, still-frames}
+use Rattle.laws.proofs.Planned.{Planned, rested, thrown, Rested, writes, pushes, pushes-both, pops-one, passes-mark, captures-many, captures-once, forgets, opens, closes, tosses, reenters, Thrown, throws-out, throws-in, lands, Holds}
+use Rattle.laws.proofs.Sound.{Entering, None-left, Fits, Rests, Capture-sound, Sound, Owned, Entered, Enters-made, Made-by, Frame-made-by, Legal, still, still-frames}
 
 passed-enters : (s : State) (f : Frame) → Passed f → Enters-made s f
 passed-enters s (Saved v) p = tt
@@ -56,7 +57,7 @@ rests Returning P h = h
 rests (Throwing n v) P h = tt
 
 module _ (s : State) (k : Sound s) where
-  abbrev here : List ℕ
+  abbrev pub here : List ℕ
   here = wind-numbers (s .winds)
 
   abbrev Stands : List Frame → List ℕ → Type 0
@@ -117,33 +118,37 @@ module _ (s : State) (k : Sound s) where
         let P : Capture → Type 0 = λ x. Prefix (reverse here) (reverse (wind-numbers (x .winds))) in
         subst P i (prefix-common (reverse here) (reverse (wind-numbers (c .winds))) deep)
 
-    restored-fits : wind-at (c .winds) (shared (s .winds) (c .winds)) ≡ None → Stands (frames-after s (Restore n)) here
-    restored-fits z =
+    -- and if none has to be entered, they are the saved ones
+    pub winds-saved : wind-at (c .winds) (shared (s .winds) (c .winds)) ≡ None → here ≡ wind-numbers (c .winds)
+    winds-saved z =
         let us : List ℕ = wind-numbers (c .winds) in
         let none : nth (reverse us) (shared (s .winds) (c .winds)) ≡ None =
         ap (λ xs. nth xs (shared (s .winds) (c .winds))) (sym (map-reverse wind-number (c .winds))) ∙ nth-map-none wind-number (reverse (c .winds)) (shared (s .winds) (c .winds)) z in
         let b : reverse here ≡ reverse us = same-common (reverse here) (reverse us) deep none in
-        let d : here ≡ us = sym (reverse-reverse here) ∙ ap reverse b ∙ reverse-reverse us in
+        sym (reverse-reverse here) ∙ ap reverse b ∙ reverse-reverse us
+
+    restored-fits : wind-at (c .winds) (shared (s .winds) (c .winds)) ≡ None → Stands (frames-after s (Restore n)) here
+    restored-fits z =
         let P : List ℕ → Type 0 = λ ws. Stands (c .frames) ws in
         let Q : Option Capture → Type 0 = λ o. Stands (saved-frames o (s .frames)) here in
-        subst Q (sym e) (subst P (sym d) (saved-winds n c e .frames))
+        subst Q (sym e) (subst P (sym (winds-saved z)) (saved-winds n c e .frames))
 
   -- what an act does not touch stays as it is
   legal-rested : (a : Act) → Rested s a → Stands (s .frames) here → Legal s a
   legal-rested a (writes w m line x y) h = record { owned = tt; entered = tt; fits = rests m _ h; written = x; pushes = tt; enters = tt; mode = y }
   legal-rested a (pushes f p x y) h =
-      record { owned = tt; entered = tt; fits = walk-push Anything (Entering (s .held)) f (s .frames) here x h; written = tt; pushes = (y, tt); enters = (passed-enters s f x, tt); mode = tt }
+      record { owned = tt; entered = tt; fits = walk-push None-left (Entering (s .held)) f (s .frames) here x h; written = tt; pushes = (y, tt); enters = (passed-enters s f x, tt); mode = tt }
   legal-rested a (pushes-both f g p x y z u) h = record {
     owned = tt;
     entered = tt;
-    fits = walk-push Anything (Entering (s .held)) g (f ∷ s .frames) here y (walk-push Anything (Entering (s .held)) f (s .frames) here x h);
+    fits = walk-push None-left (Entering (s .held)) g (f ∷ s .frames) here y (walk-push None-left (Entering (s .held)) f (s .frames) here x h);
     written = tt;
     pushes = (u, (z, tt));
     enters = (passed-enters s g y, (passed-enters s f x, tt));
     mode = tt;
   }
   legal-rested a (pops-one f fs w m e x y z) h =
-      record { owned = tt; entered = tt; fits = rests m _ (popped here e (walk-pop Anything (Entering (s .held)) f fs here x (on-top here e h))); written = y; pushes = tt; enters = tt; mode = z }
+      record { owned = tt; entered = tt; fits = rests m _ (popped here e (walk-pop None-left (Entering (s .held)) f fs here x (on-top here e h))); written = y; pushes = tt; enters = tt; mode = z }
   legal-rested a (passes-mark n c fs e f) h =
       record { owned = owned-spends (frames-after s Pop) n c f; entered = tt; fits = popped here e (on-top here e h); written = tt; pushes = tt; enters = tt; mode = tt }
   legal-rested a (captures-many p q) h = record { owned = h; entered = tt; fits = h; written = (omega arith, tt); pushes = (tt, tt); enters = (tt, tt); mode = tt }
@@ -178,7 +183,7 @@ module _ (s : State) (k : Sound s) where
     mode = tt;
   }
 
-  at-rest : (m : Mode) (P : Type 0) → At-rest m → Rests m P → P
+  pub at-rest : (m : Mode) (P : Type 0) → At-rest m → Rests m P → P
   at-rest (Going p) P q h = h
   at-rest Returning P q h = h
   at-rest (Throwing n v) P q h = absurd q

@@ -48,7 +48,7 @@ use Rattle.machine.specs.Returning.{spends, wind-at, again, resume, return}
 use Rattle.machine.specs.Throwing.{shared, unwind, throw}
 use Rattle.machine.specs.Plan.{plan, plan-in}
 use Rattle.laws.specs.Counts.{Made, Value-made, Frame-made, Names-made}
-use Rattle.laws.specs.Reached.{Plan-end}
+use Rattle.laws.specs.Reached.{Plan-end, At-rest}
 use Rattle.laws.proofs.Frames.{Passed}
 
 -- the names in what is written
@@ -60,12 +60,6 @@ write-names (ToGlobal g v) = value-names v
 -- an act, from its parts
 abbrev pub act : Write → FrameMove → WindMove → NameMove → Mode → Option ℤ → Act
 act write frames winds names mode line = record { write = write; frames = frames; winds = winds; names = names; mode = mode; line = line }
-
--- no throw is under way
-abbrev pub At-rest : Mode → Type 0
-At-rest (Going p) = Unit {0}
-At-rest Returning = Unit {0}
-At-rest (Throwing n v) = ⊥
 
 module _ (s : State) where
   -- the name holds this

@@ -53,13 +53,14 @@ Entering held (Hold v) fs ws = Unit {0}
 Entering held (Toss n v) fs ws = Unit {0}
 Entering held (Enter n v) fs ws = (c : Capture) → find capture-name held (n .0) ≡ Some c → Prefix (reverse ws) (reverse (wind-numbers (c .winds)))
 
--- nothing is asked where the frames end
-abbrev pub Anything : List ℕ → Type 0
-Anything ws = Unit {0}
+-- where the frames end, no wind is left
+abbrev pub None-left : List ℕ → Type 0
+None-left [] = Unit {0}
+None-left (w ∷ ws) = ⊥
 
--- the frames fit the numbers of the winds: each Out has its wind
+-- the frames fit the numbers of the winds: each Out has its wind, and each wind its Out
 abbrev pub Fits : List Capture → List Frame → List ℕ → Type 0
-Fits held fs ws = Walk Anything (Entering held) fs ws
+Fits held fs ws = Walk None-left (Entering held) fs ws
 
 -- while a throw is under way, the frames are not returned to
 abbrev pub Rests : Mode → Type 0 → Type 0
@@ -228,7 +229,7 @@ module _ (s : State) (k : Sound s) (fs : List Frame) where
 
   -- frames that fit still fit after a move of the names
   fits-after : (m : NameMove) (gs : List Frame) (ws : List ℕ) → All (Enters-made s) gs → Fits (s .held) gs ws → Fits (held-after s fs m) gs ws
-  fits-after m = walk-weaker Anything (Entering (s .held)) (Entering (held-after s fs m)) (Enters-made s) (entering-after m)
+  fits-after m = walk-weaker None-left (Entering (s .held)) (Entering (held-after s fs m)) (Enters-made s) (entering-after m)
 
   names-after : (m : NameMove) → Numbered (made-after (s .counts .made) m) (held-names (held-after s fs m))
   names-after KeepNames = k .names

@@ -3,7 +3,7 @@
 ghost use Rattle.laws.specs.Limits.{Limits-only-end};
 ghost use Rattle.laws.specs.Courses.{Courses-agree, Portions-join};
 ghost use Rattle.laws.specs.Counts.{Counts-conserved, Counts-within-steps, All-names-made, Winds-balanced};
-ghost use Rattle.laws.specs.Reached.{Limits-kept, Never-reached};
+ghost use Rattle.laws.specs.Reached.{Limits-kept, Never-reached, Right-winds};
 
 /// Limits change nothing but where a limit ends a run.
 pub fn limits_only_end()
@@ -48,4 +48,9 @@ pub fn limits_kept()
 /// What the definition has for want of a wind, a place or a name is never met.
 pub fn never_reached()
     ensures { λ _. ⌜ Never-reached ⌝ }
+{}
+
+/// But for throws, the winds in force are those whose bodies are running; a throw ends only with those that were saved.
+pub fn right_winds()
+    ensures { λ _. ⌜ Right-winds ⌝ }
 {}
