@@ -9,4 +9,5 @@ pub mod Limits
 pub mod Courses
 pub mod Counts
 pub mod Served
+pub mod Spent
 pub mod Computed

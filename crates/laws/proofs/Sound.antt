@@ -189,7 +189,7 @@ all-held-after P s fs (Forget n) h many once k = all-without capture-name P (s .
 
 module _ (s : State) (k : Sound s) (fs : List Frame) where
   -- under a name that was made before, a move leaves no other winds
-  record Was (n : ℕ) (c : Capture) : Type 0 where
+  pub record Was (n : ℕ) (c : Capture) : Type 0 where
     pub before : Capture
     pub found : find capture-name (s .held) n ≡ Some before
     pub same : before .winds ≡ c .winds
@@ -204,7 +204,7 @@ module _ (s : State) (k : Sound s) (fs : List Frame) where
       let i : changed capture-name (marked-in fs) for-many d ≡ c = cc in
       record { before = d; found = e; same = sym (changed-winds (marked-in fs) d) ∙ ap (λ (x : Capture). x .winds) i }
 
-  was : (m : NameMove) (n : ℕ) (c : Capture) → n ≤ s .counts .made → find capture-name (held-after s fs m) n ≡ Some c → Was n c
+  pub was : (m : NameMove) (n : ℕ) (c : Capture) → n ≤ s .counts .made → find capture-name (held-after s fs m) n ≡ Some c → Was n c
   was KeepNames n c l e = was-itself n c e
   was SaveMany n c l e =
       was-changed n c (find capture-name (s .held) n) refl

@@ -251,7 +251,7 @@ pub record Reached (l : Limits) (s : State) : Type 0 where
 abbrev pub Good : Limits → State → ℕ → State → List Event → Type 0
 Good l s n t es = Reached l t × Traced s t n es
 
-good-step : (l : Limits) (code : List Instruction) (s : State) → Reached l s → Made-step (Good l s 1) (step l code s)
+pub good-step : (l : Limits) (code : List Instruction) (s : State) → Reached l s → Made-step (Good l s 1) (step l code s)
 good-step l code s k =
     made-step (Good l s 1) l code s
     (λ u. (record { sound = halted-sound s (k .sound); within = within-halted l s (k .within); counts = counted-within (s .counts) Stay KeepNames u (k .counts) }, traced-halted s))

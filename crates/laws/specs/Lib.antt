@@ -3,4 +3,5 @@ pub mod Courses
 pub mod Counts
 pub mod Reached
 pub mod Calls
+pub mod OneShot
 pub mod Examples

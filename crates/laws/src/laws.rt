@@ -3,6 +3,7 @@
 ghost use Rattle.laws.specs.Limits.{Limits-only-end};
 ghost use Rattle.laws.specs.Courses.{Courses-agree, Portions-join};
 ghost use Rattle.laws.specs.Counts.{Counts-conserved, Counts-within-steps, All-names-made, Winds-balanced};
+ghost use Rattle.laws.specs.OneShot.{One-shot-once};
 ghost use Rattle.laws.specs.Reached.{Limits-kept, Never-reached, Right-winds};
 
 /// Limits change nothing but where a limit ends a run.
@@ -53,4 +54,9 @@ pub fn never_reached()
 /// But for throws, the winds in force are those whose bodies are running; a throw ends only with those that were saved.
 pub fn right_winds()
     ensures { λ _. ⌜ Right-winds ⌝ }
+{}
+
+/// A one-shot continuation comes back at most once: its Mark uses it up, and so does a throw to it.
+pub fn one_shot_once()
+    ensures { λ _. ⌜ One-shot-once ⌝ }
 {}
