@@ -139,7 +139,7 @@ no-more r =
     ap P (sym (zero-add (r .steps)))
 
 pub portions-join : Portions-join
-portions-join l code zero k s = rw zero-add (no-more (course l code k s))
+portions-join l code zero k s = rw (zero-add k) (no-more (course l code k s))
 portions-join l code (suc n) k s = rw suc-add (go (step l code s) (portions-join l code n k))
   where
     go : (o : Outcome) → ((t : State) → course l code (n + k) t ≡ go-on l code k (course l code n t))

@@ -179,13 +179,29 @@ examples =
       calls = called 1000 1000 ∷ tally ∷ [];
       told = (5 ∷ 0 ∷ 2 ∷ []) ∷ (5 ∷ 2 ∷ 0 ∷ 0 ∷ 2 ∷ 0 ∷ 0 ∷ 0 ∷ 42 ∷ 1 ∷ []) ∷ [];
     }
-    -- a throw out of a wind
+    -- a throw uses a one-shot continuation up, too
     ∷ record {
-      code = Proc (r 1) (at 3) ∷ CallCc (r 1) ∷ Stop ∷ Store (g 0) (r 0) ∷ Proc (r 1) (at 9) ∷ Proc (r 2) (at 12) ∷ Proc (r 3) (at 14) ∷ DynamicWind (r 1) (r 2) (r 3) ∷ Return ∷ Set (r 4) (pos 1) ∷ Print (r 4) ∷ Return ∷ Load (r 5) (g 0) ∷ Tail (r 5) ∷ Set (r 4) (pos 3) ∷ Print (r 4) ∷ Return ∷ [];
+      code = Proc (r 1) (at 5) ∷ CallOnce (r 1) ∷ Print (r 0) ∷ Load (r 5) (g 0) ∷ Tail (r 5) ∷ Store (g 0) (r 0) ∷ Set (r 0) (pos 4) ∷ Load (r 5) (g 0) ∷ Tail (r 5) ∷ [];
       frames = offer 48 7 0;
       winds = offer 16 7 0;
-      calls = called 16 12 ∷ force 0 ∷ look 2 ∷ called 1 12 ∷ force 0 ∷ called 100 12 ∷ tally ∷ [];
-      told = (16 ∷ 4 ∷ 0 ∷ 49 ∷ 10 ∷ 51 ∷ 10 ∷ []) ∷ (23 ∷ []) ∷ (5 ∷ 0 ∷ 0 ∷ 0 ∷ []) ∷ (1 ∷ 0 ∷ 0 ∷ []) ∷ (23 ∷ []) ∷ (4 ∷ 0 ∷ 2 ∷ []) ∷ (21 ∷ 1 ∷ 0 ∷ 0 ∷ 1 ∷ 1 ∷ 1 ∷ 0 ∷ 0 ∷ 2 ∷ []) ∷ [];
+      calls = called 1000 1000 ∷ tally ∷ [];
+      told = (11 ∷ 2 ∷ 2 ∷ 52 ∷ 10 ∷ []) ∷ (11 ∷ 1 ∷ 1 ∷ 0 ∷ 0 ∷ 0 ∷ 0 ∷ 0 ∷ 33 ∷ 4 ∷ []) ∷ [];
+    }
+    -- a throw out of a wind: its after runs when the wind is left, and what it does to r0 does not last
+    ∷ record {
+      code = Proc (r 1) (at 4) ∷ CallCc (r 1) ∷ Print (r 0) ∷ Stop ∷ Store (g 0) (r 0) ∷ Proc (r 1) (at 10) ∷ Proc (r 2) (at 13) ∷ Proc (r 3) (at 16) ∷ DynamicWind (r 1) (r 2) (r 3) ∷ Return ∷ Set (r 4) (pos 1) ∷ Print (r 4) ∷ Return ∷ Load (r 5) (g 0) ∷ Set (r 0) (pos 7) ∷ Tail (r 5) ∷ Set (r 0) (pos 3) ∷ Print (r 0) ∷ Return ∷ [];
+      frames = offer 48 7 0;
+      winds = offer 16 7 0;
+      calls = called 14 12 ∷ force 0 ∷ called 1 12 ∷ force 0 ∷ look 2 ∷ look 3 ∷ called 100 12 ∷ tally ∷ [];
+      told = (14 ∷ 2 ∷ 0 ∷ 49 ∷ 10 ∷ []) ∷ (1 ∷ 10 ∷ 16 ∷ 0 ∷ []) ∷ (1 ∷ 0 ∷ 0 ∷ []) ∷ (23 ∷ []) ∷ (5 ∷ 0 ∷ 0 ∷ 0 ∷ []) ∷ (7 ∷ 1 ∷ 1 ∷ 7 ∷ []) ∷ (8 ∷ 4 ∷ 2 ∷ 51 ∷ 10 ∷ 55 ∷ 10 ∷ []) ∷ (23 ∷ 1 ∷ 0 ∷ 0 ∷ 1 ∷ 1 ∷ 1 ∷ 0 ∷ 0 ∷ 3 ∷ []) ∷ [];
+    }
+    -- a throw from one wind to another of the same procedures
+    ∷ record {
+      code = Proc (r 1) (at 14) ∷ Proc (r 2) (at 17) ∷ Proc (r 3) (at 22) ∷ DynamicWind (r 1) (r 2) (r 3) ∷ Load (r 6) (g 1) ∷ Zero (r 6) (at 7) ∷ Stop ∷ Set (r 6) (pos 1) ∷ Store (g 1) (r 6) ∷ Proc (r 1) (at 14) ∷ Proc (r 2) (at 25) ∷ Proc (r 3) (at 22) ∷ DynamicWind (r 1) (r 2) (r 3) ∷ Stop ∷ Set (r 4) (pos 1) ∷ Print (r 4) ∷ Return ∷ Proc (r 1) (at 20) ∷ CallCc (r 1) ∷ Return ∷ Store (g 0) (r 0) ∷ Return ∷ Set (r 4) (pos 3) ∷ Print (r 4) ∷ Return ∷ Load (r 5) (g 0) ∷ Tail (r 5) ∷ [];
+      frames = offer 48 7 0;
+      winds = offer 16 7 0;
+      calls = called 1000 1000 ∷ tally ∷ [];
+      told = (56 ∷ 12 ∷ 2 ∷ 49 ∷ 10 ∷ 51 ∷ 10 ∷ 49 ∷ 10 ∷ 51 ∷ 10 ∷ 49 ∷ 10 ∷ 51 ∷ 10 ∷ []) ∷ (56 ∷ 1 ∷ 0 ∷ 0 ∷ 1 ∷ 3 ∷ 3 ∷ 0 ∷ 0 ∷ 6 ∷ []) ∷ [];
     }
     -- a throw back into a wind, and refused calls
     ∷ record {
