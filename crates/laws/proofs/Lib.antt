@@ -10,4 +10,5 @@ pub mod Courses
 pub mod Counts
 pub mod Served
 pub mod Spent
+pub mod Rows
 pub mod Computed

@@ -4,4 +4,5 @@ pub mod Counts
 pub mod Reached
 pub mod Calls
 pub mod OneShot
+pub mod Rows
 pub mod Examples

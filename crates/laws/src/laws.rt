@@ -4,6 +4,7 @@ ghost use Rattle.laws.specs.Limits.{Limits-only-end};
 ghost use Rattle.laws.specs.Courses.{Courses-agree, Portions-join};
 ghost use Rattle.laws.specs.Counts.{Counts-conserved, Counts-within-steps, All-names-made, Winds-balanced};
 ghost use Rattle.laws.specs.OneShot.{One-shot-once};
+ghost use Rattle.laws.specs.Rows.{Rows-joined};
 ghost use Rattle.laws.specs.Reached.{Limits-kept, Never-reached, Right-winds};
 
 /// Limits change nothing but where a limit ends a run.
@@ -59,4 +60,9 @@ pub fn right_winds()
 /// A one-shot continuation comes back at most once: its Mark uses it up, and so does a throw to it.
 pub fn one_shot_once()
     ensures { λ _. ⌜ One-shot-once ⌝ }
+{}
+
+/// Two stores' held lists and a run's own flags, joined row by row, are the machine's held names, whatever is done to all three.
+pub fn rows_joined()
+    ensures { λ _. ⌜ Rows-joined ⌝ }
 {}
