@@ -237,7 +237,7 @@ module _ (code : List Instruction) (numbers : List ℤ) where
         same-limits = ap (λ (r : Run). r .limits) (h .is);
       }
 
-  agree : (l m : Limits) (x y : Served) → After l code (start numbers) (steps-of x) (output-of x) (x .1) → After m code (start numbers) (steps-of y) (output-of y) (y .1) → Agree l m x y
+  agree : (l m : Limits) (x y : Served) → After l code (start numbers) (steps-of x) (output-of x) (x .1) → After m code (start numbers) (steps-of y) (output-of y) (y .1) → Agree code numbers l m x y
   agree l m x y h k =
       let s₀ : State = start numbers in
       let a = h .stands .1 in
@@ -257,6 +257,7 @@ module _ (code : List Instruction) (numbers : List ℤ) where
               force = λ i. ap (λ t. forced t i) s;
               state = s;
             };
+        same-events = λ e. same-count l m code (steps-of x) (steps-of y) s₀ (one-course l x h .made ∙ e ∙ sym (one-course m y k .made)) .trail;
         one-output = λ e.
             let v = one-output l m code n j s₀ (omega (arith, a .steps, b .steps, e)) in
             (v .0, sym (b .output) ∙ v .1 ∙ ap (λ z. z ++ v .0) (a .output));

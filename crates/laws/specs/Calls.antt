@@ -91,9 +91,10 @@ pub record Same-answers (x y : Served) : Type 0 where
   pub state : x .1 .state ≡ y .1 .state
 
 -- two runs of one code from equal numbers, the first under the limits l and the second under m
-pub record Agree (l m : Limits) (x y : Served) : Type 0 where
-  -- at equal step counts they tell the same
+pub record Agree (code : List Instruction) (numbers : List ℤ) (l m : Limits) (x y : Served) : Type 0 where
+  -- at equal step counts they tell the same, and have entered and left the same winds in the same order
   pub same-answers : steps-of x ≡ steps-of y → Same-answers x y
+  pub same-events : steps-of x ≡ steps-of y → course l code (steps-of x) (start numbers) .trail ≡ course m code (steps-of y) (start numbers) .trail
   -- one output begins the other
   pub one-output : steps-of x ≤ steps-of y → Begins (output-of x) (output-of y)
   -- an end that is no limit's binds the other run
@@ -103,4 +104,4 @@ pub record Agree (l m : Limits) (x y : Served) : Type 0 where
 abbrev pub Two-runs-agree : Type 0
 Two-runs-agree =
     (code : List Instruction) (numbers : List ℤ) (l m : Limits) (calls others : List Call)
-    → Agree l m (served (started code numbers l) calls) (served (started code numbers m) others)
+    → Agree code numbers l m (served (started code numbers l) calls) (served (started code numbers m) others)
