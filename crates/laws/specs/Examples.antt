@@ -139,8 +139,24 @@ all-right (e ∷ es) = right e && all-right es
 
 abbrev pub examples : List Example
 examples =
-    -- a continuation that is thrown to once more, in three portions, and a call after the end
+    -- numbers, a value on the frames, a call and a tail call
     record {
+      code = Set (r 1) (pos 5) ∷ Set (r 2) (pos 2) ∷ Sub (r 3) (r 1) (r 2) ∷ Print (r 3) ∷ Less (r 4) (r 2) (r 1) ∷ Print (r 4) ∷ Add (r 3) (r 3) (r 1) ∷ Print (r 3) ∷ Push (r 3) ∷ Set (r 3) (pos 0) ∷ Pop (r 5) ∷ Print (r 5) ∷ Proc (r 6) (at 16) ∷ CallRegister (r 6) ∷ Print (r 0) ∷ Stop ∷ Proc (r 7) (at 18) ∷ Tail (r 7) ∷ Set (r 0) (pos 9) ∷ Return ∷ [];
+      frames = offer 48 7 0;
+      winds = offer 16 7 0;
+      calls = called 9 12 ∷ look 0 ∷ called 7 12 ∷ look 0 ∷ look 1 ∷ called 100 12 ∷ tally ∷ [];
+      told = (9 ∷ 6 ∷ 0 ∷ 51 ∷ 10 ∷ 49 ∷ 10 ∷ 56 ∷ 10 ∷ []) ∷ (1 ∷ 1 ∷ 8 ∷ 0 ∷ []) ∷ (7 ∷ 2 ∷ 0 ∷ 56 ∷ 10 ∷ []) ∷ (2 ∷ 14 ∷ 0 ∷ 0 ∷ []) ∷ (23 ∷ []) ∷ (5 ∷ 2 ∷ 2 ∷ 57 ∷ 10 ∷ []) ∷ (21 ∷ 0 ∷ 0 ∷ 0 ∷ 0 ∷ 0 ∷ 0 ∷ 0 ∷ 0 ∷ 15 ∷ []) ∷ [];
+    }
+    -- a name that is forgotten is held no more
+    ∷ record {
+      code = Proc (r 1) (at 4) ∷ CallCc (r 1) ∷ Forget (r 0) ∷ Forget (r 0) ∷ Return ∷ [];
+      frames = offer 48 7 0;
+      winds = offer 16 7 0;
+      calls = called 1000 1000 ∷ tally ∷ [];
+      told = (5 ∷ 0 ∷ 2 ∷ []) ∷ (5 ∷ 1 ∷ 0 ∷ 1 ∷ 0 ∷ 0 ∷ 0 ∷ 0 ∷ 33 ∷ 3 ∷ []) ∷ [];
+    }
+    -- a continuation that is thrown to once more, in three portions, and a call after the end
+    ∷ record {
       code = Proc (r 1) (at 11) ∷ CallCc (r 1) ∷ Print (r 0) ∷ Load (r 2) (g 1) ∷ Zero (r 2) (at 6) ∷ Stop ∷ Set (r 2) (pos 1) ∷ Store (g 1) (r 2) ∷ Load (r 1) (g 0) ∷ Set (r 0) (pos 6) ∷ Tail (r 1) ∷ Store (g 0) (r 0) ∷ Set (r 0) (pos 5) ∷ Return ∷ [];
       frames = offer 48 7 0;
       winds = offer 16 7 0;
