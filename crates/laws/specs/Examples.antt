@@ -195,6 +195,30 @@ examples =
       calls = called 1000 1000 ∷ tally ∷ [];
       told = (5 ∷ 0 ∷ 2 ∷ []) ∷ (5 ∷ 2 ∷ 0 ∷ 0 ∷ 2 ∷ 0 ∷ 0 ∷ 0 ∷ 42 ∷ 1 ∷ []) ∷ [];
     }
+    -- at most 64 names are held, whatever the stores have room for
+    ∷ record {
+      code = Proc (r 1) (at 0) ∷ CallCc (r 1) ∷ [];
+      frames = offer 100 70 0;
+      winds = offer 16 80 0;
+      calls = called 1000 1000 ∷ tally ∷ [];
+      told = (129 ∷ 0 ∷ 2 ∷ []) ∷ (129 ∷ 64 ∷ 0 ∷ 0 ∷ 64 ∷ 0 ∷ 0 ∷ 0 ∷ 42 ∷ 1 ∷ []) ∷ [];
+    }
+    -- one-shot captures without end, which push two frames each, up to the frame limit
+    ∷ record {
+      code = Proc (r 1) (at 0) ∷ CallOnce (r 1) ∷ [];
+      frames = offer 17 30 0;
+      winds = offer 16 30 0;
+      calls = called 1000 1000 ∷ tally ∷ [];
+      told = (17 ∷ 0 ∷ 2 ∷ []) ∷ (17 ∷ 8 ∷ 0 ∷ 0 ∷ 8 ∷ 0 ∷ 0 ∷ 0 ∷ 40 ∷ 1 ∷ 0 ∷ []) ∷ [];
+    }
+    -- the same, up to the held limit
+    ∷ record {
+      code = Proc (r 1) (at 0) ∷ CallOnce (r 1) ∷ [];
+      frames = offer 48 7 0;
+      winds = offer 16 2 0;
+      calls = called 1000 1000 ∷ tally ∷ [];
+      told = (5 ∷ 0 ∷ 2 ∷ []) ∷ (5 ∷ 2 ∷ 0 ∷ 0 ∷ 2 ∷ 0 ∷ 0 ∷ 0 ∷ 42 ∷ 1 ∷ []) ∷ [];
+    }
     -- a throw uses a one-shot continuation up, too
     ∷ record {
       code = Proc (r 1) (at 5) ∷ CallOnce (r 1) ∷ Print (r 0) ∷ Load (r 5) (g 0) ∷ Tail (r 5) ∷ Store (g 0) (r 0) ∷ Set (r 0) (pos 4) ∷ Load (r 5) (g 0) ∷ Tail (r 5) ∷ [];
@@ -224,8 +248,8 @@ examples =
       code = Proc (r 1) (at 13) ∷ Proc (r 2) (at 16) ∷ Proc (r 3) (at 22) ∷ DynamicWind (r 1) (r 2) (r 3) ∷ Print (r 0) ∷ Load (r 2) (g 1) ∷ Zero (r 2) (at 8) ∷ Stop ∷ Set (r 2) (pos 1) ∷ Store (g 1) (r 2) ∷ Load (r 1) (g 0) ∷ Set (r 0) (pos 8) ∷ Tail (r 1) ∷ Set (r 4) (pos 1) ∷ Print (r 4) ∷ Return ∷ Proc (r 1) (at 19) ∷ CallCc (r 1) ∷ Return ∷ Store (g 0) (r 0) ∷ Set (r 0) (pos 2) ∷ Return ∷ Set (r 4) (pos 3) ∷ Print (r 4) ∷ Set (r 0) (pos 4) ∷ Return ∷ [];
       frames = offer 48 7 0;
       winds = offer 16 7 0;
-      calls = called 30 12 ∷ called 1 12 ∷ called 100 11 ∷ called 0 12 ∷ called 1000001 12 ∷ called 100 12 ∷ tally ∷ [];
-      told = (30 ∷ 6 ∷ 0 ∷ 49 ∷ 10 ∷ 51 ∷ 10 ∷ 50 ∷ 10 ∷ []) ∷ (1 ∷ 0 ∷ 0 ∷ []) ∷ (22 ∷ []) ∷ (21 ∷ []) ∷ (21 ∷ []) ∷ (18 ∷ 6 ∷ 2 ∷ 49 ∷ 10 ∷ 51 ∷ 10 ∷ 56 ∷ 10 ∷ []) ∷ (49 ∷ 1 ∷ 0 ∷ 0 ∷ 1 ∷ 2 ∷ 2 ∷ 0 ∷ 0 ∷ 7 ∷ []) ∷ [];
+      calls = called 30 12 ∷ called 1 12 ∷ called 100 11 ∷ called 0 11 ∷ called 0 12 ∷ called 1000001 12 ∷ called 100 12 ∷ tally ∷ [];
+      told = (30 ∷ 6 ∷ 0 ∷ 49 ∷ 10 ∷ 51 ∷ 10 ∷ 50 ∷ 10 ∷ []) ∷ (1 ∷ 0 ∷ 0 ∷ []) ∷ (22 ∷ []) ∷ (21 ∷ []) ∷ (21 ∷ []) ∷ (21 ∷ []) ∷ (18 ∷ 6 ∷ 2 ∷ 49 ∷ 10 ∷ 51 ∷ 10 ∷ 56 ∷ 10 ∷ []) ∷ (49 ∷ 1 ∷ 0 ∷ 0 ∷ 1 ∷ 2 ∷ 2 ∷ 0 ∷ 0 ∷ 7 ∷ []) ∷ [];
     }
     -- a line that does not fit whole
     ∷ record {
