@@ -11,4 +11,5 @@ pub mod Counts
 pub mod Served
 pub mod Spent
 pub mod Rows
+pub mod Lines
 pub mod Computed

@@ -8,13 +8,16 @@ use lib.IntN.{ℤ}
 use lib.ListN.{length, take, drop}
 use Rattle.std.specs.declared.option.Option.{Option}
 use Rattle.std.specs.declared.option.Option.the-variants.{Some, None}
+use Rattle.std.specs.declared.result.Result.the-variants.{Ok}
 use Rattle.code.specs.declared.instruction.Instruction.{Instruction}
 use Rattle.machine.specs.declared.end.End.{End}
 use Rattle.machine.specs.declared.end.End.the-variants.{UnfitStores}
 use Rattle.machine.specs.State.{State, Limits, start}
+use Rattle.machine.specs.Checks.{signed-word}
+use Rattle.machine.specs.Printed.{line}
 use Rattle.machine.specs.Course.{Course, course}
 use Rattle.machine.specs.Opening.{Offer, Run, both-fit, limits-of, started, opened}
-use Rattle.machine.specs.Calls.{Call, Answer, Ran, ran, bytes-told, steps-told, tallied, looked, forced, served, step-count, joined-output}
+use Rattle.machine.specs.Calls.{Call, Answer, Ran, ran, least-buffer, bytes-told, steps-told, tallied, looked, forced, served, step-count, joined-output}
 use Rattle.laws.specs.Limits.{Is-limit, Wider}
 use Rattle.laws.specs.Courses.{Begins}
 use Rattle.laws.specs.Counts.{Conserved, Balanced}
@@ -39,6 +42,10 @@ pub record Buffer-kept (budget : ℕ) (buffer : List ℕ) (x : Ran) : Type 0 whe
 
 abbrev pub Buffers-kept : Type 0
 Buffers-kept = (r : Run) (budget : ℕ) (buffer : List ℕ) → Buffer-kept budget buffer (ran r budget buffer)
+
+-- the line of a signed word fits in the least buffer, so a call that is accepted always has room for the first line
+abbrev pub Lines-fit : Type 0
+Lines-fit = (z : ℤ) → signed-word z ≡ Ok z → length (line z) ≤ least-buffer
 
 -- a run on fit stores is at its start, with the limits that they give; one on others has ended with 43
 pub record Opening-decides : Type 0 where

@@ -1,10 +1,15 @@
 //! The laws of calls on runs, one function for each.
 
-ghost use Rattle.laws.specs.Calls.{Buffers-kept, Opening-decides, Ended-stays, In-order, Calls-join, Two-runs-agree};
+ghost use Rattle.laws.specs.Calls.{Buffers-kept, Lines-fit, Opening-decides, Ended-stays, In-order, Calls-join, Two-runs-agree};
 
 /// A run call makes no more steps than its budget, and changes no byte of its buffer but those that it tells.
 pub fn buffers_kept()
     ensures { λ _. ⌜ Buffers-kept ⌝ }
+{}
+
+/// The line of every number that a register can hold fits in the least buffer.
+pub fn lines_fit()
+    ensures { λ _. ⌜ Lines-fit ⌝ }
 {}
 
 /// A run opened on fit stores is at its start, and any other has ended with 43.
