@@ -1,0 +1,15 @@
+pub mod Counting
+pub mod Named
+pub mod Frames
+pub mod Planned
+pub mod Sound
+pub mod Keeps
+pub mod Steps
+pub mod Limits
+pub mod Courses
+pub mod Counts
+pub mod Served
+pub mod Spent
+pub mod Rows
+pub mod Lines
+pub mod Computed

@@ -1,0 +1,17 @@
+pub mod Named
+pub mod Names
+pub mod State
+pub mod Checks
+pub mod Acts
+pub mod Going
+pub mod Returning
+pub mod Throwing
+pub mod Plan
+pub mod Printed
+pub mod Apply
+pub mod Admission
+pub mod Step
+pub mod Course
+pub mod Numbers
+pub mod Opening
+pub mod Calls
