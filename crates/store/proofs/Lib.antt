@@ -1,0 +1,2 @@
+pub mod Typing
+pub mod Calling
