@@ -12,13 +12,14 @@ use store::refusal::Refusal;
 use store::store::Store;
 
 /// How many cells a cache keeps at most.
-pub const ROOM: usize = 8;
+pub const CAPACITY: usize = 8;
 
-/// A store that keeps up to eight cells over those of the store below.
+/// A store that keeps up to eight cells itself, on top of those of the store below.
+/// There is always room below for them; cells beyond that room would not count, so nothing has to be assumed of the store below.
 #[derive(Drop)]
 pub struct Cache<S> {
     below: S,
-    table: [Cell; ROOM],
+    table: [Cell; CAPACITY],
     count: usize,
     ghost sized: { length table ≡ 8 },
     ghost within: { count ≤ 8 },
@@ -33,7 +34,7 @@ impl<S: Store> Cache<S> {
     {
         Cache {
             below,
-            table: [Cell { words: [0; WIDTH] }; ROOM],
+            table: [Cell { words: [0; WIDTH] }; CAPACITY],
             count: 0,
         }
     }
@@ -98,7 +99,7 @@ pub impl<S: Store> Store for Cache<S> as CacheStore {
         if kept == room {
             return Err(Refusal::Full(self.below.limit_level()));
         }
-        if kept == ROOM {
+        if kept == CAPACITY {
             self.move_down()?;
             self.table[0] = cell;
             self.count = 1;
@@ -120,7 +121,7 @@ pub impl<S: Store> Store for Cache<S> as CacheStore {
     }
 
     fn save(&mut self, name: Name) -> Result<(), Refusal> {
-        // Nothing moves before it is known that the store below accepts.
+        // A refused save pushes nothing, so it is first seen to that the store below accepts.
         if name.0 == 0 || self.below.saved_len(name).is_ok() {
             return Err(Refusal::NameTaken);
         }

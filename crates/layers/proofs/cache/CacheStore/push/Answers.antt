@@ -18,8 +18,8 @@ returns-in-Continue-move-down g c =
       memory = c .move-down .ensures .memory;
     }
 
-pub returns-else-kept-eq-ROOM : need.returns-else-kept-eq-ROOM
-returns-else-kept-eq-ROOM g c =
+pub returns-else-kept-eq-CAPACITY : need.returns-else-kept-eq-CAPACITY
+returns-else-kept-eq-CAPACITY g c =
     let kept : c .min-kept .result ≡ kept-count (c .args .self .now .count) (g .S·Store .meaning (c .args .self .now .below)) = omega arith in
     record {
       call = rw kept (sym (topped-more (c .args .self .now .table) (c .args .self .now .count) (g .S·Store .meaning (c .args .self .now .below)) (omega arith) (c .args .cell) (omega arith) (omega arith)));
