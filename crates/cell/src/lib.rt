@@ -8,6 +8,8 @@ mod filled;
 pub mod frame;
 pub mod frame_element;
 pub mod name;
+#[cfg(test)]
+mod tests;
 pub mod value;
 mod value_words;
 pub mod wind;

@@ -1,9 +1,12 @@
 //! A layer that keeps the top cells itself.
 
 ghost use mathlib.Core.Path.{_≡_};
+ghost use mathlib.Core.Bool.{false};
 ghost use Prim.Native.Nat.{_≤_, _<_, _+_, _-_, _^_};
 ghost use lib.ListN.{length};
+ghost use Rattle.std.specs.Results.{isOk};
 ghost use Rattle.std.specs.declared.result.Result.the-variants.{Ok};
+ghost use Rattle.store.specs.Meaning.{saved};
 ghost use Rattle.layers.specs.Layers.{topped, lowered, raised, kept-count};
 use cell::cell::Cell;
 use cell::cell::WIDTH;
@@ -120,8 +123,13 @@ pub impl<S: Store> Store for Cache<S> as CacheStore {
         Ok(self.table[kept - 1])
     }
 
-    fn save(&mut self, name: Name) -> Result<(), Refusal> {
-        // A refused save pushes nothing, so it is first seen to that the store below accepts.
+    /// A refused save leaves the cache and the store below exactly as they were.
+    fn save(&mut self, name: Name) -> Result<(), Refusal>
+        ensures call { λ r. ⌜ (r, topped (now (self .exit) .table) (now (self .exit) .count) (S·Store .meaning (now (self .exit) .below))) ≡ saved (topped (now (self .entry) .table) (now (self .entry) .count) (S·Store .meaning (now (self .entry) .below))) (name .0) ⌝ }
+        ensures memory { λ _. ⌜ S·Store .fixed (now (self .exit) .below) ≡ S·Store .fixed (now (self .entry) .below) ⌝ }
+        ensures refused { λ r. ⌜ (isOk r ≡ false → now (self .exit) ≡ now (self .entry)) ⌝ }
+    {
+        // So it is first seen to that the store below will accept.
         if name.0 == 0 || self.below.saved_len(name).is_ok() {
             return Err(Refusal::NameTaken);
         }

@@ -1,2 +1,3 @@
-pub mod Typing
 pub mod Calling
+pub mod Cells
+pub mod Typing
