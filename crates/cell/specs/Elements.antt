@@ -17,14 +17,14 @@ use Rattle.cell.specs.declared.wind.Wind.{Wind}
 use Rattle.cell.specs.declared.wind_number.WindNumber.{WindNumber}
 
 -- the address, the name and the wind number that a word stands for
-abbrev pub address : ℕ → Address
-address n = record { 0 = n }
+abbrev pub address-of : ℕ → Address
+address-of n = record { 0 = n }
 
-abbrev pub name : ℕ → Name
-name n = record { 0 = n }
+abbrev pub name-of : ℕ → Name
+name-of n = record { 0 = n }
 
-abbrev pub wind-number : ℕ → WindNumber
-wind-number n = record { 0 = n }
+abbrev pub wind-number-of : ℕ → WindNumber
+wind-number-of n = record { 0 = n }
 
 -- the first word of a value tells its kind
 abbrev pub value-kind : Value → ℕ
@@ -63,22 +63,22 @@ wind-words w = w .number .0 ∷ w .before .0 ∷ w .after .0 ∷ []
 abbrev pub value-in : ℕ → ℕ → Value
 value-in kind payload =
     cond (eqb kind 1) (Number (toZ w32 payload))
-    (cond (eqb kind 2) (Procedure (address payload))
-    (cond (eqb kind 3) (Continuation (name payload))
+    (cond (eqb kind 2) (Procedure (address-of payload))
+    (cond (eqb kind 3) (Continuation (name-of payload))
     Empty))
 
 -- the frame in a cell; a tag that no frame has reads as Out
 abbrev pub frame-in : Cell → Frame
 frame-in c =
     cond (eqb (word c 0) 1) (Saved (value-in (word c 1) (word c 2)))
-    (cond (eqb (word c 0) 2) (Back (address (word c 1)))
-    (cond (eqb (word c 0) 3) (Mark (name (word c 1)))
-    (cond (eqb (word c 0) 4) (In (address (word c 1)) (address (word c 2)) (address (word c 3)))
+    (cond (eqb (word c 0) 2) (Back (address-of (word c 1)))
+    (cond (eqb (word c 0) 3) (Mark (name-of (word c 1)))
+    (cond (eqb (word c 0) 4) (In (address-of (word c 1)) (address-of (word c 2)) (address-of (word c 3)))
     (cond (eqb (word c 0) 6) (Hold (value-in (word c 1) (word c 2)))
-    (cond (eqb (word c 0) 7) (Toss (name (word c 1)) (value-in (word c 2) (word c 3)))
-    (cond (eqb (word c 0) 8) (Enter (name (word c 1)) (value-in (word c 2) (word c 3)))
+    (cond (eqb (word c 0) 7) (Toss (name-of (word c 1)) (value-in (word c 2) (word c 3)))
+    (cond (eqb (word c 0) 8) (Enter (name-of (word c 1)) (value-in (word c 2) (word c 3)))
     Out))))))
 
 -- the wind in a cell
 abbrev pub wind-in : Cell → Wind
-wind-in c = record { number = wind-number (word c 0); before = address (word c 1); after = address (word c 2) }
+wind-in c = record { number = wind-number-of (word c 0); before = address-of (word c 1); after = address-of (word c 2) }

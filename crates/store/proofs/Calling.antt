@@ -10,6 +10,10 @@ use Rattle.store.specs.Meaning.{Meaning, Outcome, pushed, popped}
 use Rattle.store.specs.Typed.{read-as, answer-as, refused-as, outcome-as, Written}
 use Rattle.store.proofs.Typing.{left-as, pushed-as, popped-as}
 
+-- a question: `told` is the store's answer, `r` the list's
+pub asked-as : {X Y R : Type 0} (wrap : Refusal → R) (h : Result X Refusal → Result Y Refusal) (told asked : Result X Refusal) (at : Result Y Refusal) (r : Result Y R) → r ≡ refused-as wrap (h told) → told ≡ asked → h asked ≡ at → r ≡ refused-as wrap at
+asked-as wrap h told asked at r is made same = is ∙ ap (λ t. refused-as wrap (h t)) made ∙ ap (refused-as wrap) same
+
 -- `m` is what the store meant before a call, `left` after it; `told` is the store's answer, `r` the list's
 module _ {E R : Type 0} (read : Cell → E) (words : E → List ℕ) (wrap : Refusal → R) (m left : Meaning Cell) where
   -- a cell, written again as its element is

@@ -3,6 +3,7 @@ use mathlib.Core.Path.{_≡_, refl, sym, ap, _∙_}
 use mathlib.Core.Bool.{Bool, true, false, cond}
 use mathlib.Core.List.{List, [], _∷_, _++_, map}
 use Prim.Native.Nat.{ℕ, _-_, zero, suc}
+use native.Mathlib.Omega.{arith}
 use lib.Dec.{leb, eqb}
 use lib.ListN.{length, take}
 use Rattle.std.specs.Finite.{nth}
@@ -13,6 +14,7 @@ use Rattle.std.specs.declared.option.Option.the-variants.{Some, None}
 use Rattle.std.specs.declared.result.Result.{Result}
 use Rattle.std.specs.declared.result.Result.the-variants.{Ok, Err}
 use Rattle.std.proofs.shelf.Lists.{length-map, map-push, take-map}
+use Rattle.std.proofs.shelf.Maps.{nth-past}
 use Rattle.store.specs.declared.refusal.Refusal.{Refusal}
 use Rattle.store.specs.declared.refusal.Refusal.the-variants.{NoIndex}
 use Rattle.store.specs.Meaning.{Meaning, Held, Outcome, saved-under, without, pushed, popped, popped-by, saved, saved-by, restored, restored-by, released, released-by, taken, taken-by, cell-in, cell-by, saved-cell-in, length-by, saved-length, top}
@@ -26,10 +28,6 @@ nth-map f (x ∷ xs) (suc i) = nth-map f xs i
 ok-found : {A E : Type 0} (o : Option A) (e : E) → okPart (okOr o e) ≡ o
 ok-found None e = refl
 ok-found (Some x) e = refl
-
--- what a question about the last index tells
-pub asked-top : {A : Type 0} (cs : List A) (i : ℕ) (r : Result A Refusal) (o : Option A) → i ≡ length cs - 1 → r ≡ cell-in cs i → o ≡ okPart r → o ≡ top cs
-asked-top cs i r o last asked is = is ∙ ap okPart asked ∙ ok-found (nth cs i) NoIndex ∙ ap (nth cs) last
 
 -- a function of what a test chooses
 chosen : {X Y : Type 0} (h : X → Y) (b : Bool) {x y : X} {x′ y′ : Y} → h x ≡ x′ → h y ≡ y′ → h (cond b x y) ≡ cond b x′ y′
@@ -58,6 +56,15 @@ module _ {A B : Type 0} (f : A → B) where
 
   pub top-as : (cs : List A) → mapped f (top cs) ≡ top (map f cs)
   top-as cs = sym (rw length-map (nth-map f cs (length cs - 1)))
+
+  -- an empty list has no top
+  pub top-none : (cs : List A) (r : Option B) → r ≡ None → length cs ≡ 0 → r ≡ top (map f cs)
+  top-none cs r is none = is ∙ ap (mapped f) (sym (nth-past cs (length cs - 1) (omega arith))) ∙ top-as cs
+
+  -- what was told of the last index is the top
+  pub top-told : (cs : List A) (i : ℕ) (told : Result A Refusal) (found : Option A) (r : Option B) → i ≡ length cs - 1 → told ≡ cell-in cs i → found ≡ okPart told → r ≡ mapped f found → r ≡ top (map f cs)
+  top-told cs i told found r last asked is read =
+      read ∙ ap (mapped f) (is ∙ ap okPart asked ∙ ok-found (nth cs i) NoIndex ∙ ap (nth cs) last) ∙ top-as cs
 
   pub popped-as : (m : Meaning A) → (answer-as f (popped m .0), read-as f (popped m .1)) ≡ popped (read-as f m)
   popped-as m = popped-by-as m (top (m .current)) ∙ ap (popped-by (read-as f m)) (top-as (m .current))
