@@ -62,9 +62,9 @@ module _ {A B : Type 0} (f : A → B) where
   top-none cs r is none = is ∙ ap (mapped f) (sym (nth-past cs (length cs - 1) (omega arith))) ∙ top-as cs
 
   -- what was told of the last index is the top
-  pub top-told : (cs : List A) (i : ℕ) (told : Result A Refusal) (found : Option A) (r : Option B) → i ≡ length cs - 1 → told ≡ cell-in cs i → found ≡ okPart told → r ≡ mapped f found → r ≡ top (map f cs)
-  top-told cs i told found r last asked is read =
-      read ∙ ap (mapped f) (is ∙ ap okPart asked ∙ ok-found (nth cs i) NoIndex ∙ ap (nth cs) last) ∙ top-as cs
+  pub top-told : (cs : List A) (i : ℕ) (told : Result A Refusal) (found is : Option A) (r : Option B) → i ≡ length cs - 1 → told ≡ cell-in cs i → found ≡ okPart told → found ≡ is → r ≡ mapped f is → r ≡ top (map f cs)
+  top-told cs i told found is r last asked part came read =
+      read ∙ ap (mapped f) (sym came ∙ part ∙ ap okPart asked ∙ ok-found (nth cs i) NoIndex ∙ ap (nth cs) last) ∙ top-as cs
 
   pub popped-as : (m : Meaning A) → (answer-as f (popped m .0), read-as f (popped m .1)) ≡ popped (read-as f m)
   popped-as m = popped-by-as m (top (m .current)) ∙ ap (popped-by (read-as f m)) (top-as (m .current))

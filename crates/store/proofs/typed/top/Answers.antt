@@ -1,9 +1,8 @@
-use mathlib.Core.Path.{_≡_, sym, ap, _∙_}
+use mathlib.Core.Path.{_≡_, ap}
 use native.Mathlib.Omega.{arith}
 use Prim.Native.Nat.{_-_}
 use lib.ListN.{length}
-use Rattle.std.specs.Options.{mapped}
-use Rattle.std.specs.declared.option.Option.the-variants.{Some}
+use Rattle.std.specs.declared.option.Option.the-variants.{Some, None}
 use Rattle.store.proofs.Typing.{top-none, top-told}
 use Rattle.store.proofs.typed.top.Needs as need
 
@@ -17,11 +16,11 @@ returns-in-Break-cell g c =
     let read = g .E·Element .read in
     let cs = g .S·Store .meaning (c .args .store .now) .current in
     let last : c .in-Continue-index .index ≡ length cs - 1 = omega (arith, c .in-Continue-index .ensures tt) in
-    top-told read cs (c .in-Continue-index .index) (c .cell-at .result) (c .ok .result) (c .from-residual-in-Break-cell .result) last (c .cell-at .ensures) (c .ok .ensures .value) (c .from-residual-in-Break-cell .ensures ∙ sym (ap (mapped read) (c .in-Break-cell .was tt)))
+    top-told read cs (c .in-Continue-index .index) (c .cell-at .result) (c .ok .result) None (c .from-residual-in-Break-cell .result) last (c .cell-at .ensures) (c .ok .ensures .value) (c .in-Break-cell .was tt) (c .from-residual-in-Break-cell .ensures)
 
 pub returns : need.returns
 returns g c =
     let read = g .E·Element .read in
     let cs = g .S·Store .meaning (c .args .store .now) .current in
     let last : c .in-Continue-index .index ≡ length cs - 1 = omega (arith, c .in-Continue-index .ensures tt) in
-    top-told read cs (c .in-Continue-index .index) (c .cell-at .result) (c .ok .result) (Some (c .from-cell .result)) last (c .cell-at .ensures) (c .ok .ensures .value) (ap Some (c .from-cell .ensures) ∙ sym (ap (mapped read) (c .in-Continue-cell .was tt)))
+    top-told read cs (c .in-Continue-index .index) (c .cell-at .result) (c .ok .result) (Some (c .in-Continue-cell .cell)) (Some (c .from-cell .result)) last (c .cell-at .ensures) (c .ok .ensures .value) (c .in-Continue-cell .was tt) (ap Some (c .from-cell .ensures))
