@@ -1,6 +1,6 @@
 //! The limits that a bottom store may be given.
 ghost use mathlib.Core.Path.{_≡_};
-ghost use Rattle.bottom.specs.Limits.{in-range};
+ghost use Rattle.bottom.specs.Limits.{in-range, cells-needed};
 
 /// The least depth limit.
 pub const LEAST_DEPTH: u32 = 16;
@@ -19,4 +19,11 @@ pub fn are_in_range(depth: u32, held: u32) -> bool
     ensures { λ r. ⌜ r ≡ in-range depth held ⌝ }
 {
     LEAST_DEPTH <= depth && depth <= MOST_DEPTH && LEAST_HELD <= held && held <= MOST_HELD
+}
+
+/// How many cells a store with these limits must have room for.
+pub fn cells_needed(depth: u32, held: u32) -> usize
+    ensures { λ r. ⌜ r ≡ cells-needed depth held ⌝ }
+{
+    depth as usize * (held as usize + 1)
 }
