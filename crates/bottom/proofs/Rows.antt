@@ -5,14 +5,18 @@ use mathlib.Core.Path.{_≡_, refl, sym, ap, _∙_, subst}
 use mathlib.Core.List.{List, [], _∷_, _++_, map}
 use mathlib.Core.Logic.{_≢_, _⊎_, inl, inr, ⊎-elim}
 use mathlib.Core.Bool.{Bool, true, false, cond, _&&_}
-use lib.Dec.{eqb}
+use lib.Dec.{eqb, leb}
 use lib.ListN.{getD, length, take, drop}
 use Rattle.std.specs.shelf.Lists.{All}
 use Rattle.std.specs.declared.option.Option.{Option}
 use Rattle.std.specs.declared.option.Option.the-variants.{Some, None}
+use Rattle.std.specs.declared.result.Result.{Result}
+use Rattle.std.specs.declared.result.Result.the-variants.{Ok, Err}
 use Rattle.std.proofs.shelf.Tests.{cases-eq, cases-lt, cases-bool, eq-eqb, ne-eqb, eqb-true, cond-both, cond-true, cond-false, and-parts, and-from}
+use Rattle.store.specs.declared.refusal.Refusal.{Refusal}
+use Rattle.store.specs.declared.refusal.Refusal.the-variants.{HeldFull, NameTaken}
 use Rattle.bottom.specs.declared.row.Row.{Row}
-use Rattle.bottom.specs.Rows.{blank, row-under, rows-without, index-from, bit, places, every}
+use Rattle.bottom.specs.Rows.{blank, row-under, rows-without, index-from, added, added-by, bit, places, every}
 
 pub bit-same : (x k : ℕ) → x ≡ k → bit x k ≡ 1
 bit-same x k e = cond-true (eqb x k) 1 0 (eq-eqb x k e)
@@ -96,6 +100,40 @@ all-under P (x ∷ rs) n r e h = by (eqb (x .name .0) n) (λ q. all-under P rs n
     by : (b : Bool) → (row-under rs n ≡ Some r → P r) → cond b (Some x) (row-under rs n) ≡ Some r → P r
     by true rest q = let same : x ≡ r = cc in subst P same (h .0)
     by false rest q = rest q
+
+-- nothing to remove
+pub without-none : (rs : List Row) (n : ℕ) → row-under rs n ≡ None → rows-without rs n ≡ rs
+without-none [] n e = refl
+without-none (r ∷ rs) n e = by (eqb (r .name .0) n) (without-none rs n) e
+  where
+    by : (b : Bool) → (row-under rs n ≡ None → rows-without rs n ≡ rs) → cond b (Some r) (row-under rs n) ≡ None → cond b rs (r ∷ rows-without rs n) ≡ r ∷ rs
+    by true rest q = absurd (let z : _≡_ {A = ℕ} 0 1 = cc in let never : ⊥ = omega arith in never)
+    by false rest q = ap (λ xs. r ∷ xs) (rest q)
+
+-- the rows after a row was added, and after it was refused
+pub added-ok : (limit : ℕ) (rs ws : List Row) (r : Row) → (Ok tt, ws) ≡ added limit rs r → ws ≡ rs ++ (r ∷ [])
+added-ok limit rs ws r = by (row-under rs (r .name .0))
+  where
+    by-tests : (zero full : Bool) → (Ok tt, ws) ≡ cond {A = Result (Unit {0}) Refusal × List Row} zero (Err NameTaken, rs) (cond full (Err HeldFull, rs) (Ok tt, rs ++ (r ∷ []))) → ws ≡ rs ++ (r ∷ [])
+    by-tests true full e = absurd (let q : Ok tt ≡ Err NameTaken = ap (λ x. x .0) e in let z : _≡_ {A = ℕ} 0 1 = cc in let never : ⊥ = omega arith in never)
+    by-tests false true e = absurd (let q : Ok tt ≡ Err HeldFull = ap (λ x. x .0) e in let z : _≡_ {A = ℕ} 0 1 = cc in let never : ⊥ = omega arith in never)
+    by-tests false false e = ap (λ x. x .1) e
+
+    by : (u : Option Row) → (Ok tt, ws) ≡ added-by limit rs r u → ws ≡ rs ++ (r ∷ [])
+    by (Some s) e = absurd (let q : Ok tt ≡ Err NameTaken = ap (λ x. x .0) e in let z : _≡_ {A = ℕ} 0 1 = cc in let never : ⊥ = omega arith in never)
+    by None e = by-tests (eqb (r .name .0) 0) (leb limit (length rs)) e
+
+pub added-refused : (limit : ℕ) (rs ws : List Row) (r : Row) (x : Refusal) → (Err x, ws) ≡ added limit rs r → ws ≡ rs
+added-refused limit rs ws r x = by (row-under rs (r .name .0))
+  where
+    by-tests : (zero full : Bool) → (Err x, ws) ≡ cond {A = Result (Unit {0}) Refusal × List Row} zero (Err NameTaken, rs) (cond full (Err HeldFull, rs) (Ok tt, rs ++ (r ∷ []))) → ws ≡ rs
+    by-tests true full e = ap (λ y. y .1) e
+    by-tests false true e = ap (λ y. y .1) e
+    by-tests false false e = absurd (let q : Err x ≡ Ok tt = ap (λ y. y .0) e in let z : _≡_ {A = ℕ} 0 1 = cc in let never : ⊥ = omega arith in never)
+
+    by : (u : Option Row) → (Err x, ws) ≡ added-by limit rs r u → ws ≡ rs
+    by (Some s) e = ap (λ y. y .1) e
+    by None e = by-tests (eqb (r .name .0) 0) (leb limit (length rs)) e
 
 -- two facts of every row
 pub all-both : (P Q S : Row → Type 0) → ((r : Row) → P r → Q r → S r) → (rs : List Row) → All P rs → All Q rs → All S rs

@@ -7,9 +7,8 @@ ghost use Rattle.std.specs.Of.Vec.{vec-items};
 ghost use Rattle.bottom.specs.Limits.{cells-needed};
 ghost use Rattle.bottom.specs.Rows.{places, every};
 ghost use Rattle.linked.specs.Chains.{Counted, Shallow, all-free, row-fits, lists};
-
-use bottom::table::Table;
 use crate::node::Node;
+use bottom::table::Table;
 
 pub mod methods;
 

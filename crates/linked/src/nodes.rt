@@ -5,7 +5,6 @@ ghost use lib.ListN.{length, drop};
 ghost use Rattle.std.specs.Of.Vec.{vec-items};
 ghost use Rattle.linked.specs.Chains.{nodeAt, with-top};
 ghost use Rattle.linked.specs.Moves.{shared, Holds, Holds-somehow, Moved};
-
 use crate::node::Node;
 
 /// The link of a bottom node, and the top of an empty list.

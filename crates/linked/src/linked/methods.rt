@@ -9,15 +9,14 @@ ghost use Rattle.bottom.specs.Limits.{accepted, cells-needed, split-at};
 ghost use Rattle.bottom.specs.Meant.{opened};
 ghost use Rattle.linked.specs.Chains.{ends, cells};
 ghost use Rattle.linked.specs.Meant.{meant, fixed-of};
-
+use crate::linked::Linked;
+use crate::node::Node;
+use crate::nodes;
 use bottom::limits;
 use bottom::row::Row;
 use bottom::table::Table;
 use cell::cell::Cell;
 use cell::name::Name;
-use crate::linked::Linked;
-use crate::node::Node;
-use crate::nodes;
 use store::refusal::Refusal;
 use store::store::Store;
 
@@ -118,17 +117,20 @@ pub impl Store for Linked as LinkedStore {
     }
 
     fn save(&mut self, name: Name) -> Result<(), Refusal> {
-        self.table.add(Row {
-            name,
-            at: self.top,
-            len: self.len,
-        })?;
+        self.table
+            .add(Row {
+                name,
+                at: self.top,
+                len: self.len,
+            })?;
         nodes::share(&mut self.nodes, self.top, self.len);
         Ok(())
     }
 
     fn restore(&mut self, name: Name) -> Result<(), Refusal> {
-        let row = self.table.get(name).ok_or(Refusal::NotHeld)?;
+        let Some(row) = self.table.get(name) else {
+            return Err(Refusal::NotHeld);
+        };
         nodes::share(&mut self.nodes, row.at, row.len);
         self.free = nodes::let_go(&mut self.nodes, self.free, self.top, self.len);
         self.top = row.at;
@@ -137,7 +139,9 @@ pub impl Store for Linked as LinkedStore {
     }
 
     fn take(&mut self, name: Name) -> Result<(), Refusal> {
-        let row = self.table.remove(name).ok_or(Refusal::NotHeld)?;
+        let Some(row) = self.table.remove(name) else {
+            return Err(Refusal::NotHeld);
+        };
         self.free = nodes::let_go(&mut self.nodes, self.free, self.top, self.len);
         self.top = row.at;
         self.len = row.len;
@@ -145,7 +149,9 @@ pub impl Store for Linked as LinkedStore {
     }
 
     fn release(&mut self, name: Name) -> Result<(), Refusal> {
-        let row = self.table.remove(name).ok_or(Refusal::NotHeld)?;
+        let Some(row) = self.table.remove(name) else {
+            return Err(Refusal::NotHeld);
+        };
         self.free = nodes::let_go(&mut self.nodes, self.free, row.at, row.len);
         Ok(())
     }
@@ -155,12 +161,16 @@ pub impl Store for Linked as LinkedStore {
     }
 
     fn saved_len(&self, name: Name) -> Result<u32, Refusal> {
-        let row = self.table.get(name).ok_or(Refusal::NotHeld)?;
+        let Some(row) = self.table.get(name) else {
+            return Err(Refusal::NotHeld);
+        };
         Ok(row.len)
     }
 
     fn saved_cell(&self, name: Name, index: u32) -> Result<Cell, Refusal> {
-        let row = self.table.get(name).ok_or(Refusal::NotHeld)?;
+        let Some(row) = self.table.get(name) else {
+            return Err(Refusal::NotHeld);
+        };
         self.cell_of(row.at, row.len, index)
     }
 

@@ -37,9 +37,10 @@ module _ (ns ms : List Node) (f t n g u m : ℕ) (H : Holds-somehow ns f t n) (g
     next one p depth R h =
         let now = going p depth R h in
         let to : with-top (nodeAt ms u .link) R ≡ with-top (r .link) R = ap (λ (y : Node). with-top (y .link) R) (sym is) in
-        let step = subst (λ Q. Moved ms (set ms u (record { cell = r .cell; link = g; holders = 0 })) p depth u Q Q) to (rid-read ms p depth g u m R (now .1) some r is one) in
-        (moved-both ns ms _ p depth g u (with-top u R) (with-top (r .link) R) R (now .0) (moved-for ms _ p depth u (with-top (r .link) R) (with-top (r .link) R) (with-top (r .link) R) R (λ k l. refl) (λ k l. (let x : 0 < with-top (r .link) R k = omega arith in x)) step),
-        rid-read-holds ms p depth g u m R (now .1) some r is one)
+        let step = subst (λ Q. Moved ms (set ms u (record { cell = r .cell; link = g; holders = 0 })) p depth u Q Q) to (rid-read ms p depth g u m R (now .1) some r is one) in (
+          moved-both ns ms _ p depth g u (with-top u R) (with-top (r .link) R) R (now .0) (moved-for ms _ p depth u (with-top (r .link) R) (with-top (r .link) R) (with-top (r .link) R) R (λ k l. refl) (λ k l. (let x : 0 < with-top (r .link) R k = omega arith in x)) step),
+          rid-read-holds ms p depth g u m R (now .1) some r is one,
+        )
 
 pub loop-left-holds : need.loop-left-holds
 loop-left-holds c p depth R H = (moved-none (vec-items (c .args .nodes .now)) p depth (c .args .free) (with-top (c .args .top) R) R (H .sound), H)
