@@ -10,6 +10,8 @@ use Rattle.std.specs.declared.option.Option.{Option}
 use Rattle.std.specs.declared.option.Option.the-variants.{Some, None}
 use Rattle.std.specs.declared.result.Result.{Result}
 use Rattle.std.specs.declared.result.Result.the-variants.{Ok, Err}
+use Rattle.std.specs.shelf.Lists.{All}
+use Rattle.std.proofs.shelf.Elements.{all-weaker}
 use Rattle.std.proofs.shelf.Lists.{map-push, length-map}
 use Rattle.store.specs.declared.refusal.Refusal.{Refusal}
 use Rattle.store.specs.declared.refusal.Refusal.the-variants.{HeldFull, NameTaken, NotHeld}
@@ -17,6 +19,7 @@ use Rattle.store.specs.Meaning.{Meaning, Held, Outcome, saved-under, without, s
 use Rattle.bottom.specs.declared.row.Row.{Row}
 use Rattle.bottom.specs.Rows.{row-under, rows-without, added, added-by}
 use Rattle.bottom.specs.Meant.{pair-by, bottom, by-rows}
+use Rattle.bottom.proofs.Rows.{map-alike}
 
 module _ {A : Type 0} (read : Row → List A) where
   -- a lookup among the pairs is one among the rows
@@ -92,3 +95,9 @@ module _ {A : Type 0} (read : Row → List A) where
         by : (o : Option Row) → then-meant (added-by limit rs r o) ≡ saved-by meant (r .name .0) (mapped read o)
         by (Some s) = refl
         by None = rw (length-map rs (pair-by read)) (by-tests (eqb (r .name .0) 0) (leb limit (length rs)))
+
+-- the same rows, read alike in two ways
+pub alike : {A : Type 0} (read new : Row → List A) (cs ds : List A) (rs ws : List Row) (depth limit m : ℕ) → ds ≡ cs → All (λ r. new r ≡ read r) rs → ws ≡ rs → m ≡ limit → by-rows new ds ws depth m ≡ by-rows read cs rs depth limit
+alike {A} read new cs ds rs ws depth limit m now same rows is =
+    ap (λ xs. by-rows new ds xs depth m) rows ∙ ap (by-rows new ds rs depth) is ∙ ap (λ xs. by-rows new xs rs depth limit) now
+    ∙ ap (λ hs. bottom cs hs depth limit) (map-alike (pair-by new) (pair-by read) rs (all-weaker _ _ (λ x q. ap (λ (xs : List A). (let h : Held A = record { name = x .name .0; cells = xs } in h)) q) rs same))

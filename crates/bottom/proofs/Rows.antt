@@ -12,7 +12,7 @@ use Rattle.std.specs.declared.option.Option.{Option}
 use Rattle.std.specs.declared.option.Option.the-variants.{Some, None}
 use Rattle.std.specs.declared.result.Result.{Result}
 use Rattle.std.specs.declared.result.Result.the-variants.{Ok, Err}
-use Rattle.std.proofs.shelf.Tests.{cases-eq, cases-lt, cases-bool, eq-eqb, ne-eqb, eqb-true, cond-both, cond-true, cond-false, and-parts, and-from}
+use Rattle.std.proofs.shelf.Tests.{cases-eq, cases-lt, cases-bool, eq-eqb, ne-eqb, eqb-true, cond-both, cond-true, cond-false, and-parts, and-from, leb-false}
 use Rattle.store.specs.declared.refusal.Refusal.{Refusal}
 use Rattle.store.specs.declared.refusal.Refusal.the-variants.{HeldFull, NameTaken}
 use Rattle.bottom.specs.declared.row.Row.{Row}
@@ -110,18 +110,19 @@ without-none (r ∷ rs) n e = by (eqb (r .name .0) n) (without-none rs n) e
     by true rest q = absurd (let z : _≡_ {A = ℕ} 0 1 = cc in let never : ⊥ = omega arith in never)
     by false rest q = ap (λ xs. r ∷ xs) (rest q)
 
--- the rows after a row was added, and after it was refused
-pub added-ok : (limit : ℕ) (rs ws : List Row) (r : Row) → (Ok tt, ws) ≡ added limit rs r → ws ≡ rs ++ (r ∷ [])
+-- the rows after a row was added, for which there was room, and after it was refused
+pub added-ok : (limit : ℕ) (rs ws : List Row) (r : Row) → (Ok tt, ws) ≡ added limit rs r → (ws ≡ rs ++ (r ∷ [])) × (length rs < limit)
 added-ok limit rs ws r = by (row-under rs (r .name .0))
   where
-    by-tests : (zero full : Bool) → (Ok tt, ws) ≡ cond {A = Result (Unit {0}) Refusal × List Row} zero (Err NameTaken, rs) (cond full (Err HeldFull, rs) (Ok tt, rs ++ (r ∷ []))) → ws ≡ rs ++ (r ∷ [])
-    by-tests true full e = absurd (let q : Ok tt ≡ Err NameTaken = ap (λ x. x .0) e in let z : _≡_ {A = ℕ} 0 1 = cc in let never : ⊥ = omega arith in never)
-    by-tests false true e = absurd (let q : Ok tt ≡ Err HeldFull = ap (λ x. x .0) e in let z : _≡_ {A = ℕ} 0 1 = cc in let never : ⊥ = omega arith in never)
-    by-tests false false e = ap (λ x. x .1) e
-
-    by : (u : Option Row) → (Ok tt, ws) ≡ added-by limit rs r u → ws ≡ rs ++ (r ∷ [])
-    by (Some s) e = absurd (let q : Ok tt ≡ Err NameTaken = ap (λ x. x .0) e in let z : _≡_ {A = ℕ} 0 1 = cc in let never : ⊥ = omega arith in never)
-    by None e = by-tests (eqb (r .name .0) 0) (leb limit (length rs)) e
+    never : (x : Refusal) (us : List Row) → _≡_ {A = Result (Unit {0}) Refusal × List Row} (Ok tt, ws) (Err x, us) → ⊥
+    never x us e = let q : Ok tt ≡ Err x = ap (λ y. y .0) e in let z : _≡_ {A = ℕ} 0 1 = cc in omega arith
+    by-tests : (zero full : Bool) → leb limit (length rs) ≡ full → (Ok tt, ws) ≡ cond {A = Result (Unit {0}) Refusal × List Row} zero (Err NameTaken, rs) (cond full (Err HeldFull, rs) (Ok tt, rs ++ (r ∷ []))) → (ws ≡ rs ++ (r ∷ [])) × (length rs < limit)
+    by-tests true full q e = absurd (never NameTaken rs e)
+    by-tests false true q e = absurd (never HeldFull rs e)
+    by-tests false false q e = (ap (λ x. x .1) e, leb-false limit (length rs) q)
+    by : (u : Option Row) → (Ok tt, ws) ≡ added-by limit rs r u → (ws ≡ rs ++ (r ∷ [])) × (length rs < limit)
+    by (Some s) e = absurd (never NameTaken rs e)
+    by None e = by-tests (eqb (r .name .0) 0) (leb limit (length rs)) refl e
 
 pub added-refused : (limit : ℕ) (rs ws : List Row) (r : Row) (x : Refusal) → (Err x, ws) ≡ added limit rs r → ws ≡ rs
 added-refused limit rs ws r x = by (row-under rs (r .name .0))

@@ -63,6 +63,13 @@ spare-first xs h limit l long =
     let n : limit - h ≡ suc (limit - (h + 1)) = omega arith in
     ap (take (limit - h)) (drop-more xs h (blank 0) (omega arith)) ∙ rw n
 
+-- where there is room, some row is free
+pub spare-split : (t : Table) → length (listed t) < t .limit → (x : Row) × (spare t ≡ x ∷ drop 1 (spare t))
+spare-split t l =
+    let n = length-listed t in
+    let e = spare-first (t .rows) (t .held) (t .limit) (omega arith) (let a = t .few in let b = t .sized in omega arith) in
+    (getD (t .rows) (t .held) (blank 0), e ∙ ap (λ rs. getD (t .rows) (t .held) (blank 0) ∷ rs) (sym (ap (drop 1) e)))
+
 -- a row written behind the held ones
 module _ (t : Table) (row : Row) (l : t .held < t .limit) where
   pub add-listed : take (t .held + 1) (set (t .rows) (t .held) row) ≡ listed t ++ (row ∷ [])

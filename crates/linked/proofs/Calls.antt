@@ -126,7 +126,7 @@ module _ (s : Linked) (t : Table) (n : ℕ) (vs : List Node) (sh : vs ≡ shared
         (f .0, all-push _ (listed (s .table)) new-row (f .1) (f .0))
 
     rows : listed t ≡ listed (s .table) ++ (new-row ∷ [])
-    rows = added-ok (s .table .limit) (listed (s .table)) (listed t) new-row answer
+    rows = added-ok (s .table .limit) (listed (s .table)) (listed t) new-row answer .0
 
     pub save-owed : Owed vs t (s .depth) (s .free) (s .top) (s .len)
     save-owed = subst (λ ms. Owed ms t (s .depth) (s .free) (s .top) (s .len)) (sym sh) (owed _ t (s .depth) (s .free) (s .top) (s .len) (size s) _ rows (ap (cells-needed (s .depth)) limit) (s .flat) (after .0))

@@ -12,12 +12,12 @@ use Rattle.std.specs.declared.option.Option.the-variants.{Some}
 use Rattle.std.proofs.shelf.Elements.{all-weaker, all-push}
 use Rattle.std.proofs.shelf.Lists.{drop-set-lt, length-push}
 use Rattle.cell.specs.declared.cell.Cell.{Cell}
-use Rattle.store.specs.Meaning.{Held}
 use Rattle.bottom.specs.declared.row.Row.{Row}
 use Rattle.bottom.specs.Limits.{cells-needed}
-use Rattle.bottom.specs.Meant.{pair-by, bottom, by-rows}
+use Rattle.bottom.specs.Meant.{by-rows}
+use Rattle.bottom.proofs.Answered.{alike}
 use Rattle.bottom.specs.Rows.{bit, places, row-under, rows-without}
-use Rattle.bottom.proofs.Rows.{bit-same, bit-other, bit-le, places-own, places-le, places-push, places-without, all-both, all-under, all-without, map-alike}
+use Rattle.bottom.proofs.Rows.{bit-same, bit-other, bit-le, places-own, places-le, places-push, places-without, all-both, all-under, all-without}
 use Rattle.bottom.proofs.Tops.{nth-left, nth-right}
 use Rattle.linked.specs.declared.node.Node.{Node}
 use Rattle.linked.specs.Chains.{nodeAt, cells, total, leads, unheld, with-top, Ends, Free}
@@ -80,10 +80,7 @@ alike-both ns ms ks ls = all-both _ _ _ (λ r a b. b ∙ a) ls
 -- lists that are alike mean the same
 pub meant-alike : (ns ms : List Node) (r : Row) (rs ws : List Row) (depth limit m : ℕ) → All (Alike ns ms) (r ∷ rs) → ws ≡ rs → m ≡ limit
     → by-rows (read-row ms) (read-row ms r) ws depth m ≡ by-rows (read-row ns) (read-row ns r) rs depth limit
-meant-alike ns ms r rs ws depth limit m same e d =
-    ap (λ xs. by-rows (read-row ms) (read-row ms r) xs depth m) e ∙ ap (by-rows (read-row ms) (read-row ms r) rs depth) d
-    ∙ ap (λ cs. by-rows (read-row ms) cs rs depth limit) (same .0)
-    ∙ ap (λ hs. bottom (read-row ns r) hs depth limit) (map-alike (pair-by (read-row ms)) (pair-by (read-row ns)) rs (all-weaker _ _ (λ x q. ap (λ (cs : List Cell). (let h : Held Cell = record { name = x .name .0; cells = cs } in h)) q) rs (same .1)))
+meant-alike ns ms r rs ws depth limit m same e d = alike (read-row ns) (read-row ms) (read-row ns r) (read-row ms r) rs ws depth limit m (same .0) (same .1) e d
 
 module _ (ns : List Node) (p depth f : ℕ) (ls : List Row) (F : Facts ns p depth f ls) where
   -- the lists that lie in the nodes have held tops

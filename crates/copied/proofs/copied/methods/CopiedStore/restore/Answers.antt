@@ -1,0 +1,10 @@
+use Rattle.copied.proofs.copied.methods.CopiedStore.restore.Needs as need
+
+pub ghost-self : need.ghost-self
+ghost-self c = ?
+
+pub returns : need.returns
+returns c = ?
+
+pub copy-cells-requires : need.copy-cells-requires
+copy-cells-requires c κs = ?
