@@ -1,5 +1,6 @@
 -- What the calls that go by a name answer and leave, in a store whose saved lists are read from its rows.
 use Prim.Native.Nat.{ℕ, _≤_, _<_}
+use native.Mathlib.Omega.{arith}
 use mathlib.Core.Path.{_≡_, refl, sym, ap, _∙_}
 use mathlib.Core.List.{List, [], _∷_, _++_, map}
 use mathlib.Core.Bool.{Bool, true, false, cond}
@@ -95,6 +96,20 @@ module _ {A : Type 0} (read : Row → List A) where
         by : (o : Option Row) → then-meant (added-by limit rs r o) ≡ saved-by meant (r .name .0) (mapped read o)
         by (Some s) = refl
         by None = rw (length-map rs (pair-by read)) (by-tests (eqb (r .name .0) 0) (leb limit (length rs)))
+
+    -- a refused row leaves all as it was, whatever its list
+    pub saved-refused : (r : Row) (x : Refusal) → (Err x, rs) ≡ added limit rs r → (Err x, meant) ≡ saved meant (r .name .0)
+    saved-refused r x e = by (row-under rs (r .name .0)) e ∙ sym (ap (saved-by meant (r .name .0)) (under rs (r .name .0)))
+      where
+        by-tests : (zero full : Bool) → (Err x, rs) ≡ cond {A = Result (Unit {0}) Refusal × List Row} zero (Err NameTaken, rs) (cond full (Err HeldFull, rs) (Ok tt, rs ++ (r ∷ [])))
+            → (Err x, meant) ≡ cond {A = Outcome A (Unit {0})} zero (Err NameTaken, meant) (cond full (Err HeldFull, meant) (Ok tt, with-held meant (meant .held ++ (record { name = r .name .0; cells = current } ∷ []))))
+        by-tests true full q = ap (λ y. (y .0, meant)) q
+        by-tests false true q = ap (λ y. (y .0, meant)) q
+        by-tests false false q = absurd (let p : Err x ≡ Ok tt = ap (λ y. y .0) q in let z : _≡_ {A = ℕ} 0 1 = cc in let never : ⊥ = omega arith in never)
+
+        by : (o : Option Row) → (Err x, rs) ≡ added-by limit rs r o → (Err x, meant) ≡ saved-by meant (r .name .0) (mapped read o)
+        by (Some s) q = ap (λ y. (y .0, meant)) q
+        by None q = rw (length-map rs (pair-by read)) (by-tests (eqb (r .name .0) 0) (leb limit (length rs)) q)
 
 -- the same rows, read alike in two ways
 pub alike : {A : Type 0} (read new : Row → List A) (cs ds : List A) (rs ws : List Row) (depth limit m : ℕ) → ds ≡ cs → All (λ r. new r ≡ read r) rs → ws ≡ rs → m ≡ limit → by-rows new ds ws depth m ≡ by-rows read cs rs depth limit

@@ -116,10 +116,12 @@ added-ok limit rs ws r = by (row-under rs (r .name .0))
   where
     never : (x : Refusal) (us : List Row) → _≡_ {A = Result (Unit {0}) Refusal × List Row} (Ok tt, ws) (Err x, us) → ⊥
     never x us e = let q : Ok tt ≡ Err x = ap (λ y. y .0) e in let z : _≡_ {A = ℕ} 0 1 = cc in omega arith
+
     by-tests : (zero full : Bool) → leb limit (length rs) ≡ full → (Ok tt, ws) ≡ cond {A = Result (Unit {0}) Refusal × List Row} zero (Err NameTaken, rs) (cond full (Err HeldFull, rs) (Ok tt, rs ++ (r ∷ []))) → (ws ≡ rs ++ (r ∷ [])) × (length rs < limit)
     by-tests true full q e = absurd (never NameTaken rs e)
     by-tests false true q e = absurd (never HeldFull rs e)
     by-tests false false q e = (ap (λ x. x .1) e, leb-false limit (length rs) q)
+
     by : (u : Option Row) → (Ok tt, ws) ≡ added-by limit rs r u → (ws ≡ rs ++ (r ∷ [])) × (length rs < limit)
     by (Some s) e = absurd (never NameTaken rs e)
     by None e = by-tests (eqb (r .name .0) 0) (leb limit (length rs)) refl e

@@ -9,6 +9,8 @@ use lib.Seq.{paste}
 use Rattle.std.specs.Finite.{nth}
 use Rattle.std.specs.Iters.{counting}
 use Rattle.std.specs.shelf.Lists.{All}
+use Rattle.std.specs.Vec.{listOf}
+use Rattle.std.specs.declared.option.Option.{Option}
 use Rattle.std.specs.declared.option.Option.the-variants.{Some, None}
 use Rattle.std.specs.declared.result.Result.{Result}
 use Rattle.std.specs.declared.result.Result.the-variants.{Ok, Err}
@@ -26,8 +28,8 @@ use Rattle.bottom.specs.Limits.{cells-needed}
 use Rattle.bottom.specs.Meant.{by-rows}
 use Rattle.bottom.specs.Rows.{bit, places, row-under, rows-without, added, first-place}
 use Rattle.bottom.specs.Tables.{listed, spare}
-use Rattle.bottom.proofs.Answered.{alike, restored-some, taken-some, released-some, saved-row}
-use Rattle.bottom.proofs.Rows.{bit-same, places-push, places-without, places-none, all-both, all-under, all-without, added-ok}
+use Rattle.bottom.proofs.Answered.{alike, restored-some, taken-some, released-some, saved-row, saved-refused}
+use Rattle.bottom.proofs.Rows.{bit-same, places-push, places-without, places-none, all-both, all-under, all-without, added-ok, added-refused, without-none}
 use Rattle.bottom.proofs.Tables.{spare-split}
 use Rattle.bottom.proofs.Tops.{popped-push, pushed-room}
 use Rattle.copied.specs.declared.copied.Copied.{Copied}
@@ -97,8 +99,10 @@ module _ (s : Copied) (short : s .len < s .depth) (c : Cell) (whole : length (c 
   pub push-beyond : drop (size s) vs ≡ drop (size s) (words-of s)
   push-beyond = ap (drop (size s)) is ∙ (let a = part-past (s .depth) (s .table .limit) in written-beyond (words-of s) (c .words) (s .len) 1 in-first (omega arith) (size s) (omega arith))
 
-  pub push-long : length vs ≡ length (words-of s)
-  push-long = ap length is ∙ written-long (words-of s) (c .words) (s .len) 1 in-first (omega arith)
+  pub push-owed : Owed (length vs) (s .table) (s .depth) (s .len + 1)
+  push-owed =
+      let long = ap length is ∙ written-long (words-of s) (c .words) (s .len) 1 in-first (omega arith) in
+      owed (length vs) (s .table) (s .depth) (s .len + 1) (s .table .limit) _ _ refl refl refl (let a = s .room in omega arith) (s .flat) (omega arith) (s .apart) (rows-fit s) (spares-fit s)
 
 -- the last cell of the current list
 pub pop-means : (s : Copied) (x : Cell) → 0 < s .len → x ≡ cellAt (words-of s) (s .len - 1) → (Ok x, by-rows (read-row (words-of s) (s .depth)) (cells (words-of s) 0 (s .len - 1)) (listed (s .table)) (s .depth) (s .table .limit)) ≡ popped (meant s)
@@ -123,15 +127,22 @@ module _ (s : Copied) (r : Row) (fit : RowFits (s .depth) (s .table .limit) r) (
 
   pub load-alike : (rs : List Row) → All (λ x. read-row vs (s .depth) x ≡ read-row (words-of s) (s .depth) x) rs
   load-alike [] = tt
-  load-alike (x ∷ rs) =
-      (ap (λ us. read-row us (s .depth) x) is
-      ∙ (let past = part-past (s .depth) (x .at) in let b = fit .0 in cells-outside (words-of s) from 0 (r .len) in-front enough (part-start (s .depth) (x .at)) (x .len) (inr (omega arith))), load-alike rs)
+  load-alike (x ∷ rs) = (
+    ap (λ us. read-row us (s .depth) x) is
+        ∙ (let past = part-past (s .depth) (x .at) in let b = fit .0 in cells-outside (words-of s) from 0 (r .len) in-front enough (part-start (s .depth) (x .at)) (x .len) (inr (omega arith))),
+    load-alike rs,
+  )
 
   pub load-beyond : drop (size s) vs ≡ drop (size s) (words-of s)
   load-beyond = ap (drop (size s)) is ∙ (let a = part-past (s .depth) (s .table .limit) in let b = fit .0 in written-beyond (words-of s) from 0 (r .len) in-front enough (size s) (omega arith))
 
   pub load-long : length vs ≡ length (words-of s)
   load-long = ap length is ∙ written-long (words-of s) from 0 (r .len) in-front enough
+
+  pub restore-owed : Owed (length vs) (s .table) (s .depth) (r .len)
+  restore-owed =
+      let long = load-long in
+      owed (length vs) (s .table) (s .depth) (r .len) (s .table .limit) _ _ refl refl refl (let a = s .room in omega arith) (s .flat) (fit .0) (s .apart) (rows-fit s) (spares-fit s)
 
   pub load-means : (rows ws : List Row) (limit : ℕ) → ws ≡ rows → limit ≡ s .table .limit
       → by-rows (read-row vs (s .depth)) (cells vs 0 (r .len)) ws (s .depth) limit ≡ by-rows (read-row (words-of s) (s .depth)) (read-row (words-of s) (s .depth) r) rows (s .depth) (s .table .limit)
@@ -153,6 +164,21 @@ module _ (s : Copied) (n : ℕ) (r : Row) (found : row-under (listed (s .table))
   release-means =
       ap (λ m. (Ok tt, m)) (alike _ _ _ _ _ _ (s .depth) _ _ refl (all-weaker _ _ (λ x f. refl) _ (all-without _ (listed (s .table)) n (rows-fit s))) rows limit)
       ∙ released-some (read-row (words-of s) (s .depth)) (cells (words-of s) 0 (s .len)) (listed (s .table)) (s .depth) (s .table .limit) n r found
+
+-- a table from which a row was removed, if there was one
+pub removed-owed : (s : Copied) (n : ℕ) (t : Table) (o : Option Row) → o ≡ row-under (listed (s .table)) n → listed t ≡ rows-without (listed (s .table)) n → spare t ≡ listOf o ++ spare (s .table) → t .limit ≡ s .table .limit → Owed (length (words-of s)) t (s .depth) (s .len)
+removed-owed s n t None found rows frees limit = owed-same s t (rows ∙ without-none (listed (s .table)) n (sym found)) frees limit
+removed-owed s n t (Some r) found rows frees limit = gone-owed s n r (sym found) t rows frees limit (length (words-of s)) (s .len) refl (s .fits)
+
+-- a save that the table refuses
+pub save-refused : (s : Copied) (t : Table) (n place : ℕ) (a : Result (Unit {0}) Refusal) (x : Refusal) → a ≡ Err x
+    → (Err x, listed t) ≡ added (s .table .limit) (listed (s .table)) (record { name = record { 0 = n }; at = place; len = s .len }) → t .limit ≡ s .table .limit
+    → (a, by-rows (read-row (words-of s) (s .depth)) (cells (words-of s) 0 (s .len)) (listed t) (s .depth) (t .limit)) ≡ saved (meant s) n
+save-refused s t n place a x is answer limit =
+    let same = added-refused (s .table .limit) (listed (s .table)) (listed t) (record { name = record { 0 = n }; at = place; len = s .len }) x answer in
+    ap (λ b. (b, by-rows (read-row (words-of s) (s .depth)) (cells (words-of s) 0 (s .len)) (listed t) (s .depth) (t .limit))) is
+    ∙ ap (λ m. (Err x, m)) (meant-same s (listed t) (t .limit) same limit)
+    ∙ saved-refused (read-row (words-of s) (s .depth)) (cells (words-of s) 0 (s .len)) (listed (s .table)) (s .depth) (s .table .limit) _ x (ap (λ rs. (Err x, rs)) (sym same) ∙ answer)
 
 -- the current list is copied to the part of a free row
 module _ (s : Copied) (t : Table) (n place : ℕ) (at : place ≡ first-place (spare (s .table))) (answer : (Ok tt, listed t) ≡ added (s .table .limit) (listed (s .table)) (record { name = record { 0 = n }; at = place; len = s .len })) where

@@ -50,12 +50,22 @@ Owed long t depth len =
 -- a table with these rows and this limit owes what they do
 module _ (long : ℕ) (t : Table) (depth len limit : ℕ) (rs fs : List Row) (rows : listed t ≡ rs) (frees : spare t ≡ fs) (is : t .limit ≡ limit) where
   pub owed : width * cells-needed depth limit ≤ long → depth ≤ 4096 → len ≤ depth → Apart rs fs → All (RowFits depth limit) rs → All (PlaceFits limit) fs → Owed long t depth len
-  owed room flat fits apart fitting free =
-      (subst (λ m. width * cells-needed depth m ≤ long) (sym is) room,
-      (flat, (fits,
-      ((λ k. subst (λ xs. places xs k + places (spare t) k ≤ 1) (sym rows) (subst (λ ys. places rs k + places ys k ≤ 1) (sym frees) (apart k))),
-      (every-to _ _ (λ r f. and-from _ _ (le-leb (r .len) depth (f .0)) (lt-ltb (r .at) (t .limit) (f .1))) (listed t) (subst (All (RowFits depth (t .limit))) (sym rows) (subst (λ m. All (RowFits depth m) rs) (sym is) fitting)),
-      (every-to _ _ (λ r f. lt-ltb (r .at) (t .limit) f) (spare t) (subst (All (PlaceFits (t .limit))) (sym frees) (subst (λ m. All (PlaceFits m) fs) (sym is) free)), tt))))))
+  owed room flat fits apart fitting free = (
+    subst (λ m. width * cells-needed depth m ≤ long) (sym is) room,
+    (
+      flat,
+      (
+        fits,
+        (
+          (λ k. subst (λ xs. places xs k + places (spare t) k ≤ 1) (sym rows) (subst (λ ys. places rs k + places ys k ≤ 1) (sym frees) (apart k))),
+          (
+            every-to _ _ (λ r f. and-from _ _ (le-leb (r .len) depth (f .0)) (lt-ltb (r .at) (t .limit) (f .1))) (listed t) (subst (All (RowFits depth (t .limit))) (sym rows) (subst (λ m. All (RowFits depth m) rs) (sym is) fitting)),
+            (every-to _ _ (λ r f. lt-ltb (r .at) (t .limit) f) (spare t) (subst (All (PlaceFits (t .limit))) (sym frees) (subst (λ m. All (PlaceFits m) fs) (sym is) free)), tt),
+          ),
+        ),
+      ),
+    ),
+  )
 
 -- the rows of a new table have places of their own
 pub blank-places : (a n k : ℕ) → (places (map blank (counting a n)) k ≤ 1) × (k < a → places (map blank (counting a n)) k ≡ 0)

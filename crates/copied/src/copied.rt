@@ -9,7 +9,6 @@ ghost use Rattle.bottom.specs.Rows.{every};
 ghost use Rattle.bottom.specs.Tables.{listed, spare};
 ghost use Rattle.copied.specs.Cells.{width};
 ghost use Rattle.copied.specs.Parts.{Apart, row-fits, place-fits};
-
 use bottom::table::Table;
 
 pub mod methods;

@@ -4,7 +4,6 @@ ghost use mathlib.Core.Path.{_≡_};
 ghost use lib.ListN.{length, drop};
 ghost use lib.Seq.{paste};
 ghost use Rattle.copied.specs.Cells.{width, cellAt};
-
 use cell::cell::Cell;
 use cell::cell::WIDTH;
 

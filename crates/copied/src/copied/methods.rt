@@ -7,15 +7,14 @@ ghost use Rattle.bottom.specs.Limits.{accepted, cells-needed, split-at};
 ghost use Rattle.bottom.specs.Meant.{opened};
 ghost use Rattle.copied.specs.Cells.{width};
 ghost use Rattle.copied.specs.Meant.{meant, fixed-of};
-
+use crate::copied::Copied;
+use crate::words;
 use bottom::limits;
 use bottom::row::Row;
 use bottom::table::Table;
 use cell::cell::Cell;
 use cell::cell::WIDTH;
 use cell::name::Name;
-use crate::copied::Copied;
-use crate::words;
 use store::refusal::Refusal;
 use store::store::Store;
 
@@ -25,7 +24,9 @@ impl Copied {
         ensures meaning { λ r. ⌜ meant r ≡ opened (accepted (length (vec-items memory)) (width * cells-needed depth held) depth held) depth held ⌝ }
         ensures memory { λ r. ⌜ fixed-of r ≡ split-at (accepted (length (vec-items memory)) (width * cells-needed depth held) depth held) (width * cells-needed depth held) (vec-items memory) ⌝ }
     {
-        if limits::are_in_range(depth, held) && WIDTH * limits::cells_needed(depth, held) <= memory.len() {
+        if limits::are_in_range(depth, held)
+            && WIDTH * limits::cells_needed(depth, held) <= memory.len()
+        {
             return Copied {
                 memory,
                 table: Table::new(held),
@@ -81,11 +82,12 @@ pub impl Store for Copied as CopiedStore {
 
     fn save(&mut self, name: Name) -> Result<(), Refusal> {
         let place = self.table.next_place();
-        self.table.add(Row {
-            name,
-            at: place,
-            len: self.len,
-        })?;
+        self.table
+            .add(Row {
+                name,
+                at: place,
+                len: self.len,
+            })?;
         let start = limits::cells_needed(self.depth, place);
         words::copy_cells(self.memory.as_mut_slice(), 0, start, self.len as usize);
         Ok(())

@@ -15,7 +15,7 @@ use Rattle.copied.specs.Parts.{read-row, part-start}
 use Rattle.copied.proofs.Stores.{words-of}
 use Rattle.std.proofs.shelf.Counted.{length-map-counting}
 use Rattle.bottom.proofs.Tops.{pushed-full}
-use Rattle.copied.proofs.Calls.{fixed-same, push-means, push-beyond, push-long}
+use Rattle.copied.proofs.Calls.{fixed-same, push-means, push-beyond, push-owed}
 use Rattle.copied.proofs.copied.methods.CopiedStore.push.Needs as need
 
 pub returns-then-self : need.returns-then-self
@@ -25,7 +25,13 @@ returns-then-self c =
     record { memory = refl; call = sym (pushed-full (meant s) (c .args .cell) (omega arith)) }
 
 pub ghost-self : need.ghost-self
-ghost-self c = ?
+ghost-self c =
+    let s = c .args .self .now in
+    let us = c .write-cell .last .memory in
+    let e : length us ≡ vec-len (s .memory) = search needs in
+    let items = refilled-is (s .memory) us e ∙ c .write-cell .ensures ∙ ap (λ xs. paste xs (width * s .len) (c .args .cell .words) width) (c .as-mut-slice .ensures .value) in
+    let whole : length (c .args .cell .words) ≡ width = search needs in
+    push-owed s (c .if-self .left) (c .args .cell) whole _ items
 
 pub returns : need.returns
 returns c =
