@@ -1,5 +1,5 @@
 -- What the calls that go by a name answer and leave, in a store whose saved lists are read from its rows.
-use Prim.Native.Nat.{ℕ, _≤_, _<_}
+use Prim.Native.Nat.{ℕ}
 use native.Mathlib.Omega.{arith}
 use mathlib.Core.Path.{_≡_, refl, sym, ap, _∙_}
 use mathlib.Core.List.{List, [], _∷_, _++_, map}
@@ -16,7 +16,7 @@ use Rattle.std.proofs.shelf.Elements.{all-weaker}
 use Rattle.std.proofs.shelf.Lists.{map-push, length-map}
 use Rattle.store.specs.declared.refusal.Refusal.{Refusal}
 use Rattle.store.specs.declared.refusal.Refusal.the-variants.{HeldFull, NameTaken, NotHeld}
-use Rattle.store.specs.Meaning.{Meaning, Held, Outcome, saved-under, without, saved, saved-by, restored, restored-by, taken, taken-by, released, released-by, saved-length, length-by, saved-cell-in, cell-by, cell-in, with-current, with-held}
+use Rattle.store.specs.Meaning.{Meaning, Held, Outcome, saved-under, without, saved, saved-by, restored, restored-by, taken, taken-by, released, released-by, saved-length, length-by, saved-cell-in, cell-by, with-held}
 use Rattle.bottom.specs.declared.row.Row.{Row}
 use Rattle.bottom.specs.Rows.{row-under, rows-without, added, added-by}
 use Rattle.bottom.specs.Meant.{pair-by, bottom, by-rows}
@@ -32,6 +32,7 @@ module _ {A : Type 0} (read : Row → List A) where
       by true rest = refl
       by false rest = rest
 
+  -- removing a pair is removing a row
   pub without-row : (rs : List Row) (n : ℕ) → without (map (pair-by read) rs) n ≡ map (pair-by read) (rows-without rs n)
   without-row [] n = refl
   without-row (r ∷ rs) n = by (eqb (r .name .0) n) (without-row rs n)

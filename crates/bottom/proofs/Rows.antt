@@ -1,10 +1,10 @@
 -- Laws of rows: where a name is found, what adding and removing a row does to the places, and tests that every row passes.
 use Prim.Native.Nat.{ℕ, zero, suc, _+_, _-_, _≤_, _<_}
 use native.Mathlib.Omega.{arith}
-use mathlib.Core.Path.{_≡_, refl, sym, ap, _∙_, subst}
+use mathlib.Core.Path.{_≡_, refl, ap, _∙_, subst}
 use mathlib.Core.List.{List, [], _∷_, _++_, map}
-use mathlib.Core.Logic.{_≢_, _⊎_, inl, inr, ⊎-elim}
-use mathlib.Core.Bool.{Bool, true, false, cond, _&&_}
+use mathlib.Core.Logic.{_≢_, _⊎_, ⊎-elim}
+use mathlib.Core.Bool.{Bool, true, false, cond}
 use lib.Dec.{eqb, leb}
 use lib.ListN.{getD, length, take, drop}
 use Rattle.std.specs.shelf.Lists.{All}
@@ -12,18 +12,21 @@ use Rattle.std.specs.declared.option.Option.{Option}
 use Rattle.std.specs.declared.option.Option.the-variants.{Some, None}
 use Rattle.std.specs.declared.result.Result.{Result}
 use Rattle.std.specs.declared.result.Result.the-variants.{Ok, Err}
-use Rattle.std.proofs.shelf.Tests.{cases-eq, cases-lt, cases-bool, eq-eqb, ne-eqb, eqb-true, cond-both, cond-true, cond-false, and-parts, and-from, leb-false}
+use Rattle.std.proofs.shelf.Tests.{cases-eq, eq-eqb, ne-eqb, cond-both, cond-true, cond-false, and-parts, and-from, leb-false}
 use Rattle.store.specs.declared.refusal.Refusal.{Refusal}
 use Rattle.store.specs.declared.refusal.Refusal.the-variants.{HeldFull, NameTaken}
 use Rattle.bottom.specs.declared.row.Row.{Row}
 use Rattle.bottom.specs.Rows.{blank, row-under, rows-without, index-from, added, added-by, bit, places, every}
 
+-- the bit of a number at itself
 pub bit-same : (x k : ℕ) → x ≡ k → bit x k ≡ 1
 bit-same x k e = cond-true (eqb x k) 1 0 (eq-eqb x k e)
 
+-- and at another number
 pub bit-other : (x k : ℕ) → x ≢ k → bit x k ≡ 0
 bit-other x k e = cond-false (eqb x k) 1 0 (ne-eqb x k e)
 
+-- a bit is at most 1
 pub bit-le : (x k : ℕ) → bit x k ≤ 1
 bit-le x k = cond-both (eqb x k) 1 0 (λ b. b ≤ 1) (λ e. omega arith) (λ e. omega arith)
 
@@ -36,6 +39,7 @@ abbrev pub Located : ℕ → List Row → Option Row → List Row → Option ℕ
 Located a rs u w None = (u ≡ None) × (w ≡ rs)
 Located a rs u w (Some i) = (j : ℕ) × ((i ≡ a + j) × ((j < length rs) × ((u ≡ Some (getD rs j (blank 0))) × (w ≡ take j rs ++ drop (suc j) rs))))
 
+-- the index says so
 pub located : (a : ℕ) (rs : List Row) (n : ℕ) → Located a rs (row-under rs n) (rows-without rs n) (index-from a rs n)
 located a [] n = (refl, refl)
 located a (r ∷ rs) n = by (eqb (r .name .0) n) (row-under rs n) (rows-without rs n) (index-from (a + 1) rs n) (located (a + 1) rs n)
@@ -93,6 +97,7 @@ all-without P (r ∷ rs) n h = by (eqb (r .name .0) n) (all-without P rs n (h .1
     by true rest = h .1
     by false rest = (h .0, rest)
 
+-- and of the row that goes
 pub all-under : (P : Row → Type 0) (rs : List Row) (n : ℕ) (r : Row) → row-under rs n ≡ Some r → All P rs → P r
 all-under P [] n r e h = absurd (let z : _≡_ {A = ℕ} 0 1 = cc in let never : ⊥ = omega arith in never)
 all-under P (x ∷ rs) n r e h = by (eqb (x .name .0) n) (λ q. all-under P rs n r q (h .1)) e
@@ -126,6 +131,7 @@ added-ok limit rs ws r = by (row-under rs (r .name .0))
     by (Some s) e = absurd (never NameTaken rs e)
     by None e = by-tests (eqb (r .name .0) 0) (leb limit (length rs)) refl e
 
+-- a refused row leaves the rows as they were
 pub added-refused : (limit : ℕ) (rs ws : List Row) (r : Row) (x : Refusal) → (Err x, ws) ≡ added limit rs r → ws ≡ rs
 added-refused limit rs ws r x = by (row-under rs (r .name .0))
   where
@@ -148,6 +154,7 @@ pub every-from : (test : Row → Bool) (P : Row → Type 0) → ((r : Row) → t
 every-from test P f [] e = tt
 every-from test P f (r ∷ rs) e = let b = and-parts _ _ e in (f r (b .0), every-from test P f rs (b .1))
 
+-- and the other way round
 pub every-to : (test : Row → Bool) (P : Row → Type 0) → ((r : Row) → P r → test r ≡ true) → (rs : List Row) → All P rs → every test rs ≡ true
 every-to test P f [] h = refl
 every-to test P f (r ∷ rs) h = and-from _ _ (f r (h .0)) (every-to test P f rs (h .1))

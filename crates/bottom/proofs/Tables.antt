@@ -1,10 +1,10 @@
 -- The rows of a table, as its calls read and write them.
-use Prim.Native.Nat.{ℕ, zero, suc, _+_, _-_, _≤_, _<_, min}
+use Prim.Native.Nat.{ℕ, suc, _+_, _-_, _≤_, _<_}
 use native.Mathlib.Omega.{arith}
 use mathlib.Core.Path.{_≡_, refl, sym, ap, _∙_, subst}
-use mathlib.Core.List.{List, [], _∷_, _++_, map}
+use mathlib.Core.List.{List, [], _∷_, _++_}
 use mathlib.Core.Logic.{_≢_}
-use mathlib.Core.Bool.{true, false, cond}
+use mathlib.Core.Bool.{true, false}
 use lib.Dec.{eqb, leb}
 use lib.ListN.{getD, length, take, drop, set}
 use borrow.Rule.Slice.PartMut.{putMid}
@@ -21,6 +21,7 @@ use Rattle.bottom.specs.Rows.{blank, row-under, rows-without, index-from, adde
 use Rattle.bottom.specs.Tables.{listed, spare}
 use Rattle.bottom.proofs.Rows.{Located, located}
 
+-- so many rows are listed as names are held
 pub length-listed : (t : Table) → length (listed t) ≡ t .held
 length-listed t = let a = t .some in let b = t .few in let d = t .sized in simp length-take (omega arith)
 
@@ -31,6 +32,7 @@ index-more t n i l =
     let here : getD (listed t) i (blank 0) ≡ getD (t .rows) i (blank 0) = getD-take (t .held) (t .rows) i (blank 0) l in
     at-drop-more (λ ys. index-from i ys n) (listed t) i (blank 0) (omega arith) ∙ ap (λ r. index-from i (r ∷ drop (i + 1) (listed t)) n) here
 
+-- past the last row nothing is found
 pub index-all : (t : Table) (n i : ℕ) → t .held ≤ i → index-from i (drop i (listed t)) n ≡ None
 index-all t n i l = let long = length-listed t in at-drop-all (λ ys. index-from i ys n) (listed t) i (omega arith)
 
@@ -40,6 +42,7 @@ pub record Hit (t : Table) (n i : ℕ) : Type 0 where
   pub under : row-under (listed t) n ≡ Some (getD (t .rows) i (blank 0))
   pub rest : rows-without (listed t) n ≡ take i (listed t) ++ drop (suc i) (listed t)
 
+-- a found index says so
 pub hit : (t : Table) (n i : ℕ) → Some i ≡ index-from 0 (listed t) n → Hit t n i
 hit t n i e =
     let h : Located 0 (listed t) (row-under (listed t) n) (rows-without (listed t) n) (Some i) = subst (Located 0 (listed t) (row-under (listed t) n) (rows-without (listed t) n)) (sym e) (located 0 (listed t) n) in
@@ -54,6 +57,7 @@ hit t n i e =
       rest = subst (λ k. rows-without (listed t) n ≡ take k (listed t) ++ drop (suc k) (listed t)) same (h .1 .1 .1 .1);
     }
 
+-- where no index is found, no row has the name
 pub miss : (t : Table) (n : ℕ) → None ≡ index-from 0 (listed t) n → (row-under (listed t) n ≡ None) × (rows-without (listed t) n ≡ listed t)
 miss t n e = subst (Located 0 (listed t) (row-under (listed t) n) (rows-without (listed t) n)) (sym e) (located 0 (listed t) n)
 
@@ -72,9 +76,11 @@ spare-split t l =
 
 -- a row written behind the held ones
 module _ (t : Table) (row : Row) (l : t .held < t .limit) where
+  -- it is the last of the held rows
   pub add-listed : take (t .held + 1) (set (t .rows) (t .held) row) ≡ listed t ++ (row ∷ [])
   add-listed = take-more-set (t .rows) (t .held) row (let a = t .few in let b = t .sized in omega arith)
 
+  -- and the first free row is gone
   pub add-spare : take (t .limit - (t .held + 1)) (drop (t .held + 1) (set (t .rows) (t .held) row)) ≡ drop 1 (spare t)
   add-spare =
       let first = spare-first (t .rows) (t .held) (t .limit) l (let a = t .few in let b = t .sized in omega arith) in
@@ -82,21 +88,27 @@ module _ (t : Table) (row : Row) (l : t .held < t .limit) where
 
 -- a row moved behind the held ones
 module _ (xs ys : List Row) (i h : ℕ) (l : i < h) (long : h ≤ length xs) (turned : ys ≡ drop 1 (take (h - i) (drop i xs)) ++ take 1 (take (h - i) (drop i xs))) where
+  -- the row that goes
   abbrev gone : Row
   gone = getD xs i (blank 0)
 
+  -- the held rows before it
   abbrev front : List Row
   front = take i xs
 
+  -- the held rows after it
   abbrev back : List Row
   back = take (h - (i + 1)) (drop (i + 1) xs)
 
+  -- the part that is turned
   middle : take (h - i) (drop i xs) ≡ gone ∷ back
   middle = let n : h - i ≡ suc (h - (i + 1)) = omega arith in ap (take (h - i)) (drop-more xs i (blank 0) (omega arith)) ∙ rw n
 
+  -- the part after it was turned
   ys-is : ys ≡ back ++ (gone ∷ [])
   ys-is = turned ∙ ap (λ zs. drop 1 zs ++ take 1 zs) middle
 
+  -- so many rows stay held
   length-ends : length (front ++ back) ≡ h - 1
   length-ends = simp (length-append, length-take, length-drop) (omega arith)
 
@@ -107,6 +119,7 @@ module _ (xs ys : List Row) (i h : ℕ) (l : i < h) (long : h ≤ length xs) (tu
       ap (λ zs. front ++ (ys ++ zs)) rest ∙ ap (λ zs. front ++ (zs ++ drop h xs)) ys-is
       ∙ ap (λ zs. front ++ zs) (append-assoc back (gone ∷ []) (drop h xs)) ∙ sym (append-assoc front back (gone ∷ drop h xs))
 
+  -- as many rows as before
   pub length-moved : length (putMid i (h - i) xs ys) ≡ length xs
   length-moved = ap length moved ∙ length-append (front ++ back) (gone ∷ drop h xs) ∙ (let a = length-ends in simp length-drop (omega arith))
 
@@ -118,6 +131,7 @@ module _ (xs ys : List Row) (i h : ℕ) (l : i < h) (long : h ≤ length xs) (tu
       let right : drop i (take h xs) ≡ take (h - i) (drop i xs) = ap (λ n. drop i (take n xs)) (let q : h ≡ i + (h - i) = omega arith in q) ∙ drop-take i (h - i) xs in
       whole ∙ ap (λ zs. zs ++ drop i (take h xs)) left ∙ ap (λ zs. front ++ zs) (right ∙ middle)
 
+  -- the held rows are those before without it
   pub remove-listed : take (h - 1) (putMid i (h - i) xs ys) ≡ take i (take h xs) ++ drop (suc i) (take h xs)
   remove-listed =
       let n : length front ≡ i = simp length-take (omega arith) in
@@ -126,6 +140,7 @@ module _ (xs ys : List Row) (i h : ℕ) (l : i < h) (long : h ≤ length xs) (tu
       ap (drop (suc i)) (held-rows ∙ sym (append-assoc front (gone ∷ []) back)) ∙ drop-at (front ++ (gone ∷ [])) back (suc i) (length-push front gone ∙ (let q : length front + 1 ≡ suc i = omega arith in q)) in
       ap (take (h - 1)) moved ∙ take-at (front ++ back) (gone ∷ drop h xs) (h - 1) length-ends ∙ sym (ap (λ zs. zs ++ drop (suc i) (take h xs)) left ∙ ap (λ zs. front ++ zs) right)
 
+  -- and it is the first free row
   pub remove-spare : (limit : ℕ) → h ≤ limit → take (limit - (h - 1)) (drop (h - 1) (putMid i (h - i) xs ys)) ≡ gone ∷ take (limit - h) (drop h xs)
   remove-spare limit m =
       let n : limit - (h - 1) ≡ suc (limit - h) = omega arith in
@@ -141,6 +156,7 @@ module _ (t : Table) (row : Row) (o : Option ℕ) (is : o ≡ index-from 0 (list
       by None e n = miss t (row .name .0) e .0
       by (Some i) e n = absurd (true≢false n)
 
+  -- a held name is refused
   pub added-held : isSome o ≡ true → (Err NameTaken, listed t) ≡ added (t .limit) (listed t) row
   added-held = by o is
     where
@@ -148,6 +164,7 @@ module _ (t : Table) (row : Row) (o : Option ℕ) (is : o ≡ index-from 0 (list
       by None e n = absurd (false≢true n)
       by (Some i) e n = sym (ap (added-by (t .limit) (listed t) row) (hit t (row .name .0) i e .under))
 
+  -- a new name is refused where no row is free
   pub added-full : row .name .0 ≢ 0 → isSome o ≡ false → t .limit ≤ t .held → (Err HeldFull, listed t) ≡ added (t .limit) (listed t) row
   added-full nz n l =
       let long = length-listed t in
@@ -155,6 +172,7 @@ module _ (t : Table) (row : Row) (o : Option ℕ) (is : o ≡ index-from 0 (list
       let b : leb (t .limit) (length (listed t)) ≡ true = le-leb _ _ (omega arith) in
       sym (ap (added-by (t .limit) (listed t) row) (fresh n) ∙ rw (a, b))
 
+  -- and else it is added
   pub added-fits : row .name .0 ≢ 0 → isSome o ≡ false → t .held < t .limit → (Ok tt, listed t ++ (row ∷ [])) ≡ added (t .limit) (listed t) row
   added-fits nz n l =
       let long = length-listed t in
@@ -162,6 +180,7 @@ module _ (t : Table) (row : Row) (o : Option ℕ) (is : o ≡ index-from 0 (list
       let b : leb (t .limit) (length (listed t)) ≡ false = lt-leb _ _ (omega arith) in
       sym (ap (added-by (t .limit) (listed t) row) (fresh n) ∙ rw (a, b))
 
+-- the name 0 is refused
 pub added-zero : (limit : ℕ) (rs : List Row) (row : Row) → row .name .0 ≡ 0 → (Err NameTaken, rs) ≡ added limit rs row
 added-zero limit rs row z = by (row-under rs (row .name .0))
   where

@@ -1,5 +1,5 @@
 -- The rows of a table.
-use Prim.Native.Nat.{ℕ, _-_}
+use Prim.Native.Nat.{_-_}
 use mathlib.Core.List.{List}
 use lib.ListN.{take, drop}
 use Rattle.bottom.specs.declared.row.Row.{Row}

@@ -1,20 +1,21 @@
 -- Cells in words after some of the words were overwritten.
-use Prim.Native.Nat.{ℕ, zero, suc, _+_, _-_, _*_, _≤_, _<_, min}
+use Prim.Native.Nat.{ℕ, _+_, _-_, _*_, _≤_, _<_, min}
 use native.Mathlib.Omega.{arith}
 use native.Mathlib.Nat.{mul-le-mul-left, mul-add}
 use mathlib.Core.Path.{_≡_, refl, sym, ap, _∙_}
 use mathlib.Core.List.{List, [], _∷_, _++_, map}
-use mathlib.Core.Logic.{_≢_, _⊎_, inl, inr, ⊎-elim}
+use mathlib.Core.Logic.{_⊎_, inl, inr}
 use lib.ListN.{length, getD, take, drop}
 use lib.Seq.{paste}
 use Rattle.std.specs.Iters.{counting}
 use Rattle.std.proofs.shelf.Counted.{length-map-counting, getD-map-counting}
-use Rattle.std.proofs.shelf.Edits.{length-paste, take-paste, drop-paste}
+use Rattle.std.proofs.shelf.Edits.{length-paste}
 use Rattle.std.proofs.shelf.Lists.{same-lists, ext-getD, length-take, length-drop, length-append, getD-take, getD-drop, getD-append-left, getD-append-right, take-all}
 use Rattle.cell.specs.declared.cell.Cell.{Cell}
 use Rattle.bottom.specs.Limits.{cells-needed}
 use Rattle.copied.specs.Cells.{width, cellAt, cells}
 
+-- two lists that are made in the same way, place by place
 pub map-counting-eq : {X : Type 0} (f g : ℕ → X) (a b n : ℕ) → ((k : ℕ) → k < n → f (a + k) ≡ g (b + k)) → map f (counting a n) ≡ map g (counting b n)
 map-counting-eq f g a b n h =
     same-lists _ _ (length-map-counting f a n ∙ sym (length-map-counting g b n))
@@ -22,18 +23,22 @@ map-counting-eq f g a b n h =
 
 -- the words of a list of which n, from a place on, were overwritten by those of another
 module _ (ws new : List ℕ) (at n : ℕ) (fits : at + n ≤ length ws) (enough : n ≤ length new) where
+  -- the words then
   abbrev after : List ℕ
   after = paste ws at new n
 
+  -- as many words as before
   pub paste-long : length after ≡ length ws
   paste-long = length-paste ws at new n fits enough
 
+  -- the words below are as they were
   pub paste-below : (k : ℕ) → k < at → getD after k 0 ≡ getD ws k 0
   paste-below k l =
       let a : length (take at ws) ≡ at = simp length-take (omega arith) in
       let b : length (take at ws ++ take n new) ≡ at + n = simp (length-append, length-take) (omega arith) in
       getD-append-left (take at ws ++ take n new) (drop (at + n) ws) 0 k (omega arith) ∙ getD-append-left (take at ws) (take n new) 0 k (omega arith) ∙ getD-take at ws k 0 l
 
+  -- the overwritten words are the new ones
   pub paste-inside : (j : ℕ) → j < n → getD after (at + j) 0 ≡ getD new j 0
   paste-inside j l =
       let a : length (take at ws) ≡ at = simp length-take (omega arith) in
@@ -42,6 +47,7 @@ module _ (ws new : List ℕ) (at n : ℕ) (fits : at + n ≤ length ws) (enough 
       getD-append-left (take at ws ++ take n new) (drop (at + n) ws) 0 (at + j) (omega arith) ∙ getD-append-right (take at ws) (take n new) at (at + j) 0 a (omega arith)
       ∙ ap (λ i. getD (take n new) i 0) c ∙ getD-take n new j 0 l
 
+  -- the words above are as they were
   pub paste-above : (k : ℕ) → at + n ≤ k → getD after k 0 ≡ getD ws k 0
   paste-above k l =
       let b : length (take at ws ++ take n new) ≡ at + n = simp (length-append, length-take) (omega arith) in
@@ -67,12 +73,14 @@ same-cell ws vs i j l h =
 
 -- so many cells overwritten by those of a list of words
 module _ (ws new : List ℕ) (to n : ℕ) (fits : width * (to + n) ≤ length ws) (enough : width * n ≤ length new) where
+  -- the words then
   abbrev pub written : List ℕ
   written = paste ws (width * to) new (width * n)
 
   long : length written ≡ length ws
   long = paste-long ws new (width * to) (width * n) (omega arith) enough
 
+  -- the overwritten cells are the new ones
   pub cells-inside : cells written to n ≡ cells new 0 n
   cells-inside =
       map-counting-eq _ _ to 0 n (λ k l.
@@ -82,13 +90,16 @@ module _ (ws new : List ℕ) (to n : ℕ) (fits : width * (to + n) ≤ length ws
       let a : width * (to + k) + r ≡ width * to + (width * k + r) = omega arith in
       ap (λ i. getD written i 0) a ∙ paste-inside ws new (width * to) (width * n) (omega arith) enough (width * k + r) (omega arith))))
 
+  -- cells that lie wholly below or above are as they were
   pub cells-outside : (a m : ℕ) → (a + m ≤ to) ⊎ (to + n ≤ a) → cells written a m ≡ cells ws a m
   cells-outside a m (inl b) = map-counting-eq _ _ a a m (λ k l. let e = long in same-cell written ws (a + k) (a + k) (omega arith) (λ r h. paste-below ws new (width * to) (width * n) (omega arith) enough (width * (a + k) + r) (omega arith)))
   cells-outside a m (inr b) = map-counting-eq _ _ a a m (λ k l. let e = long in same-cell written ws (a + k) (a + k) (omega arith) (λ r h. paste-above ws new (width * to) (width * n) (omega arith) enough (width * (a + k) + r) (omega arith)))
 
+  -- what lies past them is as it was
   pub written-beyond : (p : ℕ) → width * (to + n) ≤ p → drop p written ≡ drop p ws
   written-beyond p l = paste-beyond ws new (width * to) (width * n) (omega arith) enough p (omega arith)
 
+  -- as many words as before
   pub written-long : length written ≡ length ws
   written-long = long
 
@@ -110,5 +121,6 @@ part-below depth s t l =
     let e : depth * (s + 2) ≡ depth * (s + 1) + depth = grind (arith, mul-add) in
     omega arith
 
+-- every part lies past that of the current list
 pub part-past : (depth s : ℕ) → depth ≤ cells-needed depth s
 part-past depth s = let e : depth * (s + 1) ≡ depth * s + depth = grind (arith, mul-add) in omega arith

@@ -3,9 +3,8 @@ use Prim.Native.Nat.{ℕ, zero, suc, _+_, _*_, _≤_, _<_}
 use native.Mathlib.Omega.{arith}
 use mathlib.Core.Bool.{true}
 use mathlib.Core.Logic.{⊎-elim}
-use mathlib.Core.Path.{_≡_, refl, sym, ap, _∙_, subst}
-use mathlib.Core.List.{List, [], _∷_, _++_, map}
-use lib.ListN.{length}
+use mathlib.Core.Path.{_≡_, refl, sym, subst}
+use mathlib.Core.List.{List, map}
 use Rattle.std.specs.Iters.{counting}
 use Rattle.std.specs.Of.Vec.{vec-items}
 use Rattle.std.specs.shelf.Lists.{All}
@@ -15,11 +14,12 @@ use Rattle.bottom.specs.declared.table.Table.{Table}
 use Rattle.bottom.specs.Limits.{cells-needed}
 use Rattle.bottom.specs.Rows.{blank, bit, places, every}
 use Rattle.bottom.specs.Tables.{listed, spare}
-use Rattle.bottom.proofs.Rows.{bit-same, bit-other, bit-le, every-from, every-to}
+use Rattle.bottom.proofs.Rows.{bit-other, bit-le, every-from, every-to}
 use Rattle.copied.specs.declared.copied.Copied.{Copied}
 use Rattle.copied.specs.Cells.{width}
 use Rattle.copied.specs.Parts.{Apart, row-fits, place-fits}
 
+-- the words of a store
 abbrev pub words-of : Copied → List ℕ
 words-of s = vec-items (s .memory)
 
@@ -31,9 +31,11 @@ RowFits depth limit r = (r .len ≤ depth) × (r .at < limit)
 abbrev pub PlaceFits : ℕ → Row → Type 0
 PlaceFits limit r = r .at < limit
 
+-- every held row fits
 pub rows-fit : (s : Copied) → All (RowFits (s .depth) (s .table .limit)) (listed (s .table))
 rows-fit s = every-from _ _ (λ r e. (let b = and-parts _ _ e in (leb-true (r .len) (s .depth) (b .0), ltb-true (r .at) (s .table .limit) (b .1)))) (listed (s .table)) (s .fitting)
 
+-- the part of every free row is there
 pub spares-fit : (s : Copied) → All (PlaceFits (s .table .limit)) (spare (s .table))
 spares-fit s = every-from _ _ (λ r e. ltb-true (r .at) (s .table .limit) e) (spare (s .table)) (s .free)
 
@@ -77,6 +79,7 @@ blank-places a (suc n) k =
     (λ ne. let b : bit a k ≡ 0 = bit-other a k ne in let y = rest .0 in (omega arith, λ l. let w = rest .1 (omega arith) in omega arith))
     (cases-eq a k)
 
+-- and their parts are there
 pub blank-fit : (limit a n : ℕ) → a + n ≤ limit → All (PlaceFits limit) (map blank (counting a n))
 blank-fit limit a zero l = tt
 blank-fit limit a (suc n) l = (omega arith, blank-fit limit (a + 1) n (omega arith))

@@ -1,27 +1,26 @@
 -- What a change of one node does to the counts of holders, to the depth of the lists and to the free nodes.
-use Prim.Native.Nat.{ℕ, zero, suc, _+_, _-_, _*_, _≤_, _<_}
+use Prim.Native.Nat.{ℕ, zero, suc, _+_, _-_, _≤_, _<_}
 use native.Mathlib.Omega.{arith}
 use mathlib.Core.Path.{_≡_, refl, sym, ap, _∙_, subst}
 use mathlib.Core.List.{List, [], _∷_, _++_}
-use mathlib.Core.Logic.{_≢_, _⊎_, inl, inr, ⊎-elim}
-use mathlib.Core.Bool.{true, _&&_}
-use lib.Dec.{ltb, eqb}
-use lib.ListN.{getD, set, length, length-set}
+use mathlib.Core.Logic.{_≢_, _⊎_, ⊎-elim}
+use mathlib.Core.Bool.{true}
+use lib.ListN.{set, length}
 use lib.Seq.{getD-set-same, getD-set-other}
 use Rattle.std.proofs.shelf.Tests.{cases-eq, cases-lt, and-parts, and-from, ltb-true, lt-ltb, leb-true, le-leb, eqb-true, eq-eqb}
-use Rattle.cell.specs.declared.cell.Cell.{Cell}
 use Rattle.linked.specs.declared.node.Node.{Node}
 use Rattle.bottom.specs.Rows.{bit}
 use Rattle.bottom.proofs.Rows.{bit-same, bit-other, bit-is}
 use Rattle.linked.specs.Moves.{Sound}
-use Rattle.linked.specs.Chains.{no-node, nodeAt, cells, total, if-held, if-free, leads, unheld, Counted, Deep, Shallow, Ends, ends, Free, frees}
-use Rattle.linked.proofs.Totals.{total-ones, held-pos, held-zero, held-is, free-zero, free-pos, total-same, total-change, total-le, total-ge, total-plus, total-zero, total-small, total-pos}
+use Rattle.linked.specs.Chains.{no-node, nodeAt, cells, total, if-held, if-free, leads, unheld, Counted, Deep, Ends, ends, Free, frees}
+use Rattle.linked.proofs.Totals.{total-ones, held-pos, held-zero, held-is, free-zero, free-pos, total-change, total-le, total-ge, total-plus, total-pos}
 
 -- one node written
 pub record Put (ns ms : List Node) (t : ℕ) (x : Node) : Type 0 where
   pub here : nodeAt ms t ≡ x
   pub other : (j : ℕ) → j ≢ t → nodeAt ms j ≡ nodeAt ns j
 
+-- a write to the memory is one
 pub put-set : (ns : List Node) (t : ℕ) (x : Node) → t < length ns → Put ns (set ns t x) t x
 put-set ns t x l = record { here = getD-set-same ns t x no-node l; other = λ j ne. getD-set-other ns t j x no-node ne }
 
@@ -47,6 +46,7 @@ abbrev pub Rooted : List Node → ℕ → ℕ → Type 0
 Rooted ns p t = t < p → 0 < nodeAt ns t .holders
 
 module _ (ns : List Node) (p : ℕ) (R : ℕ → ℕ) (count : Counted ns p R) where
+  -- the top of a list is held
   pub rooted : (t : ℕ) → 0 < R t → Rooted ns p t
   rooted t h l = let e = count t l in omega arith
 
@@ -79,12 +79,14 @@ module _ (ns ms : List Node) (p : ℕ) (S : ℕ → Type 0) (link : (i : ℕ) �
       let c = cells-kept same n (nodeAt ns t .link) (next t (e .0) s) (e .1) in
       ap (λ u. cells ms u n ++ (nodeAt ms t .cell ∷ [])) a ∙ ap (λ x. cells ms (nodeAt ns t .link) n ++ (x ∷ [])) b ∙ ap (λ cs. cs ++ (nodeAt ns t .cell ∷ [])) c
 
+-- a list that ends goes no deeper
 pub ends-deep : (ns : List Node) (p n m t : ℕ) → n ≤ m → Ends ns p t n → Deep ns p m t → ⊥
 ends-deep ns p zero zero t l e d = omega arith
 ends-deep ns p zero (suc m) t l e d = let x = d .0 in omega arith
 ends-deep ns p (suc n) zero t l e d = omega arith
 ends-deep ns p (suc n) (suc m) t l e d = ends-deep ns p n m (nodeAt ns t .link) (omega arith) (e .1) (d .1)
 
+-- a chain of free nodes has one length
 pub free-length : (ns : List Node) (p m n f : ℕ) → Free ns p f m → Free ns p f n → m ≡ n
 free-length ns p zero zero f a b = refl
 free-length ns p zero (suc n) f a b = absurd (let x = b .0 in let z : ⊥ = omega arith in z)

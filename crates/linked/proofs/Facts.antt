@@ -3,30 +3,29 @@ use Prim.Native.Nat.{ℕ, zero, suc, _+_, _-_, _*_, _≤_, _<_}
 use native.Mathlib.Omega.{arith}
 use native.Mathlib.Nat.{mul-le-mul, mul-le-mul-right, mul-add, mul-comm, mul-one}
 use mathlib.Core.Path.{_≡_, refl, sym, ap, _∙_, subst}
-use mathlib.Core.List.{List, [], _∷_, _++_, map}
-use mathlib.Core.Logic.{_≢_}
+use mathlib.Core.List.{List, [], _∷_, _++_}
 use lib.ListN.{length, set, drop, length-set}
 use Rattle.std.specs.Finite.{nth}
 use Rattle.std.specs.shelf.Lists.{All}
 use Rattle.std.specs.declared.option.Option.the-variants.{Some}
-use Rattle.std.proofs.shelf.Elements.{all-weaker, all-push}
+use Rattle.std.proofs.shelf.Elements.{all-weaker}
 use Rattle.std.proofs.shelf.Lists.{drop-set-lt, length-push}
 use Rattle.cell.specs.declared.cell.Cell.{Cell}
 use Rattle.bottom.specs.declared.row.Row.{Row}
 use Rattle.bottom.specs.Limits.{cells-needed}
 use Rattle.bottom.specs.Meant.{by-rows}
 use Rattle.bottom.proofs.Answered.{alike}
-use Rattle.bottom.specs.Rows.{bit, places, row-under, rows-without}
-use Rattle.bottom.proofs.Rows.{bit-same, bit-other, bit-le, places-own, places-le, places-push, places-without, all-both, all-under, all-without}
+use Rattle.bottom.specs.Rows.{bit, places}
+use Rattle.bottom.proofs.Rows.{bit-other, places-own, places-le, all-both}
 use Rattle.bottom.proofs.Tops.{nth-left, nth-right}
 use Rattle.linked.specs.declared.node.Node.{Node}
 use Rattle.linked.specs.Chains.{nodeAt, cells, total, leads, unheld, with-top, Ends, Free}
 use Rattle.linked.specs.Meant.{read-row}
-use Rattle.linked.specs.Moves.{Sound, Kept, Holds, Moved, shared}
+use Rattle.linked.specs.Moves.{Sound, Holds, Moved, shared}
 use Rattle.linked.proofs.Totals.{held-zero, held-le, free-zero, total-zero, total-ones, total-small, total-plus}
 use Rattle.linked.proofs.Changes.{Put, put-set, Rooted, rooted, taken-up, used-ends, used-cells, some-free}
 use Rattle.linked.proofs.Meeting.{met, met-all, met-total, all-top, all-down, all-total}
-use Rattle.linked.proofs.Moving.{sound-same, moved-for, ends-within, ends-rest, share-moved}
+use Rattle.linked.proofs.Moving.{sound-same, moved-for, share-moved}
 
 -- a list by its top and its length
 abbrev pub list-at : ℕ → ℕ → Row
@@ -46,6 +45,7 @@ pub record Facts (ns : List Node) (p depth f : ℕ) (ls : List Row) : Type 0 whe
   pub fitting : All (Fits ns p depth) ls
   pub room : p ≤ length ns
 
+-- a list has so many cells as nodes
 pub length-cells : (ns : List Node) (n t : ℕ) → length (cells ns t n) ≡ n
 length-cells ns zero t = refl
 length-cells ns (suc n) t = length-push (cells ns (nodeAt ns t .link) n) (nodeAt ns t .cell) ∙ (let e = length-cells ns n (nodeAt ns t .link) in omega arith)
@@ -54,22 +54,27 @@ length-cells ns (suc n) t = length-push (cells ns (nodeAt ns t .link) n) (nodeAt
 pub cell-down : (ns : List Node) (t n index : ℕ) → index < n → nth (cells ns t (suc n)) index ≡ nth (cells ns (nodeAt ns t .link) n) index
 cell-down ns t n index l = nth-left (cells ns (nodeAt ns t .link) n) _ index (let e = length-cells ns n (nodeAt ns t .link) in omega arith)
 
+-- the top cell is the last
 pub cell-top : (ns : List Node) (t index : ℕ) → nth (cells ns t (suc index)) index ≡ Some (nodeAt ns t .cell)
 cell-top ns t index = nth-right (cells ns (nodeAt ns t .link) index) (nodeAt ns t .cell ∷ []) index 0 (let e = length-cells ns index (nodeAt ns t .link) in omega arith)
 
 -- lists that a change kept
 module _ (ns ms : List Node) (p depth g : ℕ) (Q K : ℕ → ℕ) (m : Moved ns ms p depth g Q K) (ls : List Row) (tops : All (λ r. 0 < K (r .at)) ls) (fitting : All (Fits ns p depth) ls) where
+  -- they are whole
   pub still-fit : All (Fits ms p depth) ls
   still-fit = all-both _ _ _ (λ r k f. (f .0, m .kept (r .at) (r .len) k (f .1) .0)) ls tops fitting
 
+  -- and have the same cells
   pub still-alike : All (Alike ns ms) ls
   still-alike = all-both _ _ _ (λ r k f. m .kept (r .at) (r .len) k (f .1) .1) ls tops fitting
 
 -- a change after which the lists are those of some rows
 module _ (ns ms : List Node) (p depth f g : ℕ) (ks ls : List Row) (F : Facts ns p depth f ks) (m : Moved ns ms p depth g (places ls) (places ls)) (fitting : All (Fits ns p depth) ls) where
+  -- the facts then
   pub settled : Facts ms p depth g ls
   settled = record { sound = m .sound; fitting = still-fit ns ms p depth g _ _ m ls (places-own ls) fitting; room = let a = m .long in let b = F .room in omega arith }
 
+  -- and each of these lists is as it was
   pub settled-alike : All (Alike ns ms) ls
   settled-alike = still-alike ns ms p depth g _ _ m ls (places-own ls) fitting
 
@@ -87,6 +92,7 @@ module _ (ns : List Node) (p depth f : ℕ) (ls : List Row) (F : Facts ns p dept
   pub tops-rooted : All (λ r. Rooted ns p (r .at)) ls
   tops-rooted = all-weaker _ _ (λ r h. rooted ns p (places ls) (F .sound .counted) (r .at) h) ls (places-own ls)
 
+  -- no node has more holders than there are lists and nodes
   pub holders-small : (k : ℕ) → k < p → nodeAt ns k .holders ≤ length ls + p
   holders-small k l =
       let e = F .sound .counted k l in
@@ -114,10 +120,12 @@ room-left depth limit held len h l =
     let d : depth * 1 ≡ depth = mul-one depth in
     omega arith
 
+-- a store is small
 pub needed-small : (depth limit : ℕ) → depth ≤ 4096 → limit ≤ 64 → cells-needed depth limit ≤ 266240
 needed-small depth limit a b = let q : limit + 1 ≤ 65 = omega arith in let e : depth * (limit + 1) ≤ 4096 * 65 = mul-le-mul a q in omega arith
 
 module _ (ns : List Node) (p depth f t len : ℕ) (rs : List Row) (F : Facts ns p depth f (list-at t len ∷ rs)) where
+  -- the first free node is one
   pub free-within : len + length rs * depth < p → f < p
   free-within few =
       let ls : List Row = list-at t len ∷ rs in
@@ -130,12 +138,15 @@ module _ (ns : List Node) (p depth f t len : ℕ) (rs : List Row) (F : Facts ns 
 
   -- the first free node becomes the top of the first list
   module _ (within : f < p) (short : len < depth) (c : Cell) where
+    -- the nodes then
     abbrev pub grown : List Node
     grown = set ns f (record { cell = c; link = t; holders = 1 })
 
+    -- it is one node written
     put : Put ns grown f (record { cell = c; link = t; holders = 1 })
     put = put-set ns f _ (let a = F .room in omega arith)
 
+    -- the other lists are as they were
     push-moved : Moved ns grown p depth (nodeAt ns f .link) (places (list-at f (len + 1) ∷ rs)) (places (list-at t len ∷ rs))
     push-moved =
         let Q : ℕ → ℕ = places (list-at f (len + 1) ∷ rs) in
@@ -150,12 +161,15 @@ module _ (ns : List Node) (p depth f t len : ℕ) (rs : List Row) (F : Facts ns 
           long = length-set ns f _;
         }
 
+    -- they are whole
     push-old : All (Fits grown p depth) (list-at t len ∷ rs)
     push-old = still-fit ns grown p depth _ _ _ push-moved (list-at t len ∷ rs) (places-own (list-at t len ∷ rs)) (F .fitting)
 
+    -- and have the same cells
     pub push-alike : All (Alike ns grown) (list-at t len ∷ rs)
     push-alike = still-alike ns grown p depth _ _ _ push-moved (list-at t len ∷ rs) (places-own (list-at t len ∷ rs)) (F .fitting)
 
+    -- the facts then
     pub push-facts : (next : ℕ) → next ≡ nodeAt ns f .link → Facts grown p depth next (list-at f (len + 1) ∷ rs)
     push-facts next is =
         let one : suc len ≡ len + 1 = omega arith in
@@ -167,22 +181,26 @@ module _ (ns : List Node) (p depth f t len : ℕ) (rs : List Row) (F : Facts ns 
           room = let a = length-set ns f (record { cell = c; link = t; holders = 1 }) in let b = F .room in omega arith;
         }
 
+    -- the list has the new cell on top
     pub push-cells : cells grown f (len + 1) ≡ cells ns t len ++ (c ∷ [])
     push-cells =
         let one : len + 1 ≡ suc len = omega arith in
         ap (cells grown f) one ∙ ap (λ (y : Node). cells grown (y .link) len ++ (y .cell ∷ [])) (put .here) ∙ ap (λ cs. cs ++ (c ∷ [])) (push-alike .0)
 
+    -- nothing past the need has changed
     pub push-beyond : drop p grown ≡ drop p ns
     push-beyond = drop-set-lt p ns f _ within
 
 -- the nodes as a new store has them: all free, one linked to the next
 module _ (ns : List Node) (p : ℕ) (linked : (k : ℕ) → k < p → (nodeAt ns k .link ≡ k + 1) × (nodeAt ns k .holders ≡ 0)) where
+  -- they are linked from any one on
   new-free : (n k : ℕ) → k + n ≡ p → Free ns p k n
   new-free zero k e = omega arith
   new-free (suc n) k e =
       let l : k < p = omega arith in
       (l, linked k l .1, subst (λ u. Free ns p u n) (sym (linked k l .0)) (new-free n (k + 1) (omega arith)))
 
+  -- the facts of an empty list
   pub new-facts : (depth end : ℕ) → p ≤ end → p ≤ length ns → Facts ns p depth 0 (list-at end 0 ∷ [])
   new-facts depth end out room =
       record {

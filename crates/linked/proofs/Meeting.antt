@@ -2,7 +2,7 @@
 use Prim.Native.Nat.{ℕ, zero, suc, _+_, _*_, _≤_, _<_}
 use native.Mathlib.Omega.{arith}
 use native.Mathlib.Nat.{suc-mul}
-use mathlib.Core.Path.{_≡_, refl, sym, ap, _∙_, subst}
+use mathlib.Core.Path.{_≡_, refl, sym, ap, subst}
 use mathlib.Core.List.{List, [], _∷_}
 use mathlib.Core.Logic.{⊎-elim}
 use lib.ListN.{length}
@@ -25,10 +25,12 @@ abbrev pub met-all : List Node → List Row → ℕ → ℕ
 met-all ns [] k = 0
 met-all ns (r ∷ rs) k = met ns (r .at) (r .len) k + met-all ns rs k
 
+-- a list meets its top
 met-top : (ns : List Node) (p n t : ℕ) → t < p → Ends ns p t n → 0 < met ns t n t
 met-top ns p zero t l e = absurd (let z : ⊥ = omega arith in z)
 met-top ns p (suc n) t l e = let b : bit t t ≡ 1 = bit-same t t refl in omega arith
 
+-- and with a node the one below it
 met-down : (ns : List Node) (p n t i : ℕ) → Ends ns p t n → 0 < met ns t n i → nodeAt ns i .link < p → 0 < met ns t n (nodeAt ns i .link)
 met-down ns p zero t i e h l = absurd (let z : ⊥ = omega arith in z)
 met-down ns p (suc n) t i e h l =
@@ -44,6 +46,7 @@ met-down ns p (suc n) t i e h l =
     (let g : 0 < bit t (nodeAt ns i .link) + met ns (nodeAt ns t .link) n (nodeAt ns i .link) = omega arith in g))
     (cases-lt 0 (bit t i))
 
+-- a list meets so many nodes as it is long, at most
 pub met-total : (ns : List Node) (p n t : ℕ) → total (met ns t n) p ≤ n
 met-total ns p zero t = let z = total-zero (met ns t 0) p (λ j l. refl) in omega arith
 met-total ns p (suc n) t =

@@ -4,13 +4,13 @@ use native.Mathlib.Omega.{arith}
 use mathlib.Core.Path.{_≡_, refl, sym, ap, _∙_, subst}
 use mathlib.Core.List.{List}
 use mathlib.Core.Logic.{_≢_, ⊎-elim}
-use lib.ListN.{length, getD, set, drop, length-set}
+use lib.ListN.{length, getD, set, length-set}
 use Rattle.std.proofs.shelf.Lists.{drop-set-lt, getD-default}
 use Rattle.std.proofs.shelf.Tests.{cases-eq}
 use Rattle.bottom.specs.Rows.{bit}
 use Rattle.bottom.proofs.Rows.{bit-same, bit-other}
 use Rattle.linked.specs.declared.node.Node.{Node}
-use Rattle.linked.specs.Chains.{no-node, nodeAt, cells, with-top, Ends}
+use Rattle.linked.specs.Chains.{no-node, nodeAt, with-top, Ends}
 use Rattle.linked.specs.Moves.{Sound, Kept, Holds, Moved, recounted, shared}
 use Rattle.linked.proofs.Changes.{Put, put-set, Rooted, rooted, rooted-link, ends-kept, cells-kept, recount, recount-link, recount-cell, freed, freed-other}
 
@@ -33,12 +33,15 @@ module _ (ns : List Node) (p t h : ℕ) (room : p ≤ length ns) (within : t < p
   abbrev counts : List Node
   counts = set ns t (recounted (nodeAt ns t) h)
 
+  -- it is one node written
   put : Put ns counts t (recounted (nodeAt ns t) h)
   put = put-set ns t _ (omega arith)
 
+  -- no link has changed
   pub recount-same-link : (i : ℕ) → nodeAt counts i .link ≡ nodeAt ns i .link
   recount-same-link = recount-link ns counts t 0 p 0 _ (λ i. 0) (λ i. 0) within put refl refl was is
 
+  -- so every list is as it was
   pub recount-kept : (m u : ℕ) → Ends ns p u m → Kept ns counts p u m
   recount-kept m u e =
       let cell : (i : ℕ) → nodeAt counts i .cell ≡ nodeAt ns i .cell = recount-cell ns counts t 0 p 0 _ (λ i. 0) (λ i. 0) within put refl refl was is in (
@@ -46,6 +49,7 @@ module _ (ns : List Node) (p t h : ℕ) (room : p ≤ length ns) (within : t < p
         cells-kept ns counts p (λ i. Unit {0}) (λ i l y. recount-same-link i) (λ i l y. tt) (λ i l y. cell i) m u tt e,
       )
 
+  -- and the counts are right if the tops have changed alike
   pub recount-sound : (f depth : ℕ) (R Q : ℕ → ℕ) → Sound ns f p depth R → ((k : ℕ) → k ≢ t → Q k ≡ R k) → Q t + nodeAt ns t .holders ≡ R t + h → Sound counts f p depth Q
   recount-sound f depth R Q s others at-t = recount ns counts t f p depth _ R Q within put refl refl was is s others at-t
 
@@ -74,6 +78,7 @@ moved-none ns p depth f Q K s = record { sound = s; kept = λ t n k e. (e, refl)
 
 -- one holder more for the top of a list
 module _ (ns : List Node) (f p depth : ℕ) (R : ℕ → ℕ) (s : Sound ns f p depth R) (room : p ≤ length ns) where
+  -- the list has one top more then
   pub share-moved : (n t : ℕ) → Ends ns p t n → Rooted ns p t → (K : ℕ → ℕ) → Moved ns (shared ns t n) p depth f (with-top t R) K
   share-moved zero t e r K =
       moved-none ns p depth f (with-top t R) K (sound-same ns f p depth R (with-top t R) s (λ k l. (let b : bit t k ≡ 0 = bit-other t k (omega arith) in let g : with-top t R k ≡ R k = omega arith in g)))
@@ -88,20 +93,25 @@ module _ (ns : List Node) (f p depth : ℕ) (R : ℕ → ℕ) (s : Sound ns f p 
 
 -- one list of those that are held
 module _ (ns : List Node) (p depth f t n : ℕ) (R : ℕ → ℕ) (H : Holds ns p depth f t n R) (some : 0 < n) where
+  -- its top is a node
   pub top-within : t < p
   top-within = ends-within ns p t n some (H .ends)
 
+  -- which is held
   pub top-held : 0 < nodeAt ns t .holders
   top-held = rooted ns p (with-top t R) (H .sound .counted) t (let b : bit t t ≡ 1 = bit-same t t refl in let g : 0 < with-top t R t = omega arith in g) top-within
 
+  -- and below it is a list
   rest-ends : Ends ns p (nodeAt ns t .link) (n - 1)
   rest-ends = ends-rest ns p t n some (H .ends)
 
   -- others hold its top too, and go on to do so
   module _ (two : 1 < nodeAt ns t .holders) where
+    -- the nodes then
     abbrev pub left : List Node
     left = set ns t (recounted (nodeAt ns t) (nodeAt ns t .holders - 1))
 
+    -- the others are held as they were
     pub left-moved : (K : ℕ → ℕ) → Moved ns left p depth f R K
     left-moved K =
         let fewer : 0 < nodeAt ns t .holders - 1 = omega arith in
@@ -124,24 +134,30 @@ module _ (ns : List Node) (p depth f t n : ℕ) (R : ℕ → ℕ) (H : Holds ns 
 
   -- nothing else holds its top, which becomes free
   module _ (one : nodeAt ns t .holders ≡ 1) where
+    -- the node then
     abbrev pub free-node : Node
     free-node = record { cell = nodeAt ns t .cell; link = f; holders = 0 }
 
+    -- the nodes then
     abbrev pub rid : List Node
     rid = set ns t free-node
 
+    -- it is one node written
     rid-put : Put ns rid t free-node
     rid-put = put-set ns t _ (let a = top-within in let b = H .room in omega arith)
 
+    -- the tops then
     abbrev rest : ℕ → ℕ
     rest = with-top (nodeAt ns t .link) R
 
+    -- all is sound again
     rid-sound : Sound rid t p depth rest
     rid-sound =
         freed ns rid t f p depth free-node (with-top t R) rest top-within rid-put refl one refl (H .sound)
         (λ k. (let g : rest k + bit t k ≡ with-top t R k + bit (nodeAt ns t .link) k = omega arith in g))
         (let b : bit t t ≡ 1 = bit-same t t refl in let g : 0 < with-top t R t = omega arith in g)
 
+    -- every other list is as it was
     rid-kept : (u m : ℕ) → 0 < rest u → Ends ns p u m → Kept ns rid p u m
     rid-kept u m k e =
         let other : (i : ℕ) → 0 < nodeAt rid i .holders → nodeAt rid i ≡ nodeAt ns i = freed-other ns rid t f p depth free-node (with-top t R) rest top-within rid-put refl one refl in
@@ -152,9 +168,11 @@ module _ (ns : List Node) (p depth f t n : ℕ) (R : ℕ → ℕ) (H : Holds ns 
           cells-kept ns rid p (Rooted rid p) link next (λ i l q. ap (λ (y : Node). y .cell) (other i (q l))) m u root e,
         )
 
+    -- both together
     pub rid-moved : Moved ns rid p depth t rest rest
     rid-moved = set-moved ns p depth t t free-node rest rest top-within rid-sound rid-kept
 
+    -- as many nodes as before
     pub rid-long : length rid ≡ length ns
     rid-long = length-set ns t free-node
 
@@ -173,19 +191,24 @@ read-node ns k r l e = e ∙ getD-default ns k r no-node l
 
 -- the same moves, by the top node r as it was read
 module _ (ns : List Node) (p depth f t n : ℕ) (R : ℕ → ℕ) (H : Holds ns p depth f t n R) (some : 0 < n) (r : Node) (is : r ≡ nodeAt ns t) where
+  -- others hold it: one holder less
   pub leave-read : 1 < r .holders → Moved ns (set ns t (recounted r (r .holders - 1))) p depth f R R
   leave-read = subst (λ (y : Node). 1 < y .holders → Moved ns (set ns t (recounted y (y .holders - 1))) p depth f R R) (sym is) (λ two. left-moved ns p depth f t n R H some two R)
 
+  -- and the rest of the list is held by itself
   pub pass-read : 1 < r .holders → Moved ns (shared (set ns t (recounted r (r .holders - 1))) (r .link) (n - 1)) p depth f (with-top (nodeAt ns t .link) R) (with-top (nodeAt ns t .link) R)
   pass-read = subst (λ (y : Node). 1 < y .holders → Moved ns (shared (set ns t (recounted y (y .holders - 1))) (y .link) (n - 1)) p depth f (with-top (nodeAt ns t .link) R) (with-top (nodeAt ns t .link) R)) (sym is)
       (λ two. passed-moved ns p depth f t n R H some two (with-top (nodeAt ns t .link) R))
 
+  -- nothing else holds it
   one-read : r .holders ≤ 1 → nodeAt ns t .holders ≡ 1
   one-read l = let e = ap (λ (y : Node). y .holders) is in let h = top-held ns p depth f t n R H some in omega arith
 
+  -- it becomes free
   pub rid-read : r .holders ≤ 1 → Moved ns (set ns t (record { cell = r .cell; link = f; holders = 0 })) p depth t (with-top (nodeAt ns t .link) R) (with-top (nodeAt ns t .link) R)
   rid-read l = subst (λ (y : Node). Moved ns (set ns t (record { cell = y .cell; link = f; holders = 0 })) p depth t (with-top (nodeAt ns t .link) R) (with-top (nodeAt ns t .link) R)) (sym is) (rid-moved ns p depth f t n R H some (one-read l))
 
+  -- and the rest of the list is held by itself
   pub rid-read-holds : r .holders ≤ 1 → Holds (set ns t (record { cell = r .cell; link = f; holders = 0 })) p depth t (r .link) (n - 1) R
   rid-read-holds l = subst (λ (y : Node). Holds (set ns t (record { cell = y .cell; link = f; holders = 0 })) p depth t (y .link) (n - 1) R) (sym is) (rid-holds ns p depth f t n R H some (one-read l))
 

@@ -2,11 +2,10 @@
 use Prim.Native.Nat.{ℕ, _+_, _≤_, _<_, _^_}
 use native.Mathlib.Omega.{arith}
 use mathlib.Core.Bool.{true}
-use mathlib.Core.Path.{_≡_, refl, sym, ap, _∙_, subst}
+use mathlib.Core.Path.{_≡_, sym, subst}
 use mathlib.Core.List.{List, _∷_}
-use lib.ListN.{length, drop}
+use lib.ListN.{length}
 use Rattle.std.specs.Of.Vec.{vec-items, vec-len}
-use Rattle.std.specs.shelf.Lists.{All}
 use Rattle.std.proofs.shelf.Tests.{and-parts, and-from, leb-true, le-leb}
 use Rattle.bottom.specs.declared.row.Row.{Row}
 use Rattle.bottom.specs.declared.table.Table.{Table}
@@ -17,25 +16,29 @@ use Rattle.bottom.proofs.Rows.{every-from, every-to}
 use Rattle.bottom.proofs.Tables.{length-listed}
 use Rattle.linked.specs.declared.linked.Linked.{Linked}
 use Rattle.linked.specs.declared.node.Node.{Node}
-use Rattle.linked.specs.Chains.{nodeAt, total, unheld, lists, row-fits, Counted, Shallow, all-free, Ends}
+use Rattle.linked.specs.Chains.{nodeAt, total, unheld, lists, row-fits, Counted, Shallow, all-free}
 use Rattle.linked.specs.Meant.{size}
-use Rattle.linked.specs.Moves.{Sound}
 use Rattle.linked.proofs.Changes.{ends-from, ends-to, free-from, free-to}
 use Rattle.linked.proofs.Facts.{Facts, Fits, list-at, free-within, room-left, needed-small, holders-small}
 use Rattle.linked.proofs.Moving.{ends-within}
 
+-- the nodes of a store
 abbrev pub nodes-of : Linked → List Node
 nodes-of s = vec-items (s .nodes)
 
+-- its lists
 abbrev pub lists-of : Linked → List Row
 lists-of s = lists (s .top) (s .len) (s .table)
 
+-- a test that is passed
 fit-from : (ns : List Node) (p depth : ℕ) (r : Row) → row-fits ns p depth r ≡ true → Fits ns p depth r
 fit-from ns p depth r e = let b = and-parts _ _ e in (leb-true (r .len) depth (b .0), ends-from ns p (r .len) (r .at) (b .1))
 
+-- and the other way round
 fit-to : (ns : List Node) (p depth : ℕ) (r : Row) → Fits ns p depth r → row-fits ns p depth r ≡ true
 fit-to ns p depth r f = and-from _ _ (le-leb (r .len) depth (f .0)) (ends-to ns p (r .len) (r .at) (f .1))
 
+-- the facts of a store
 pub facts-of : (s : Linked) → Facts (nodes-of s) (size s) (s .depth) (s .free) (lists-of s)
 facts-of s =
     record {
@@ -64,9 +67,11 @@ owed ns t depth f top len p rs rows need flat F =
 pub in-nodes : (s : Linked) (k : ℕ) → k < size s → k < length (nodes-of s)
 in-nodes s k l = let b = s .room in omega arith
 
+-- and in the memory
 pub within-len : (s : Linked) (k : ℕ) → k < size s → k < vec-len (s .nodes)
 within-len s k l = let a = s .nodes .ok .0 in let b = s .room in omega arith
 
+-- the top of a list that is not empty is needed
 pub top-in : (s : Linked) → 0 < s .len → s .top < size s
 top-in s l = ends-within (nodes-of s) (size s) (s .top) (s .len) l (facts-of s .fitting .0 .1)
 

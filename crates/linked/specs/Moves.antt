@@ -37,6 +37,14 @@ pub record Moved (ns ms : List Node) (p depth g : ℕ) (Q K : ℕ → ℕ) : Typ
   pub beyond : drop p ms ≡ drop p ns
   pub long : length ms ≡ length ns
 
+-- a list was let go, whatever the others are: these are as they were
+abbrev pub Let-go : List Node → List Node → ℕ → ℕ → ℕ → ℕ → Type 0
+Let-go ns ms f g t n = (p depth : ℕ) (R : ℕ → ℕ) → Holds ns p depth f t n R → Moved ns ms p depth g R R
+
+-- the top of a list was taken off, whatever the others are: these and the rest of the list are as they were
+abbrev pub Top-dropped : List Node → List Node → ℕ → ℕ → ℕ → ℕ → Type 0
+Top-dropped ns ms f g t n = (p depth : ℕ) (R : ℕ → ℕ) → Holds ns p depth f t n R → Moved ns ms p depth g (with-top (nodeAt ns t .link) R) (with-top (nodeAt ns t .link) R)
+
 -- a node with another number of holders
 abbrev pub recounted : Node → ℕ → Node
 recounted n h = record { cell = n .cell; link = n .link; holders = h }

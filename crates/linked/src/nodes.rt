@@ -1,10 +1,10 @@
 //! Lists of linked nodes, and how their nodes are shared, freed and used again.
-ghost use Prim.Native.Nat.{ℕ, _+_, _-_, _^_, _<_, _≤_};
+ghost use Prim.Native.Nat.{ℕ, _+_, _^_, _<_, _≤_};
 ghost use mathlib.Core.Path.{_≡_};
 ghost use lib.ListN.{length, drop};
 ghost use Rattle.std.specs.Of.Vec.{vec-items};
-ghost use Rattle.linked.specs.Chains.{nodeAt, with-top};
-ghost use Rattle.linked.specs.Moves.{shared, Holds, Holds-somehow, Moved};
+ghost use Rattle.linked.specs.Chains.{nodeAt};
+ghost use Rattle.linked.specs.Moves.{shared, Holds-somehow, Let-go, Top-dropped};
 use crate::node::Node;
 
 /// The link of a bottom node, and the top of an empty list.
@@ -47,7 +47,7 @@ pub fn drop_top(nodes: &mut Vec<Node>, free: u32, top: u32, len: u32) -> u32
     requires some { ⌜ 0 < len ⌝ }
     requires held { ⌜ Holds-somehow (vec-items (now nodes)) free top len ⌝ }
     requires small { ⌜ (1 < len → nodeAt (vec-items (now nodes)) (nodeAt (vec-items (now nodes)) top .link) .holders + 1 < 2 ^ 32) ⌝ }
-    ensures { λ r. ⌜ ((p depth : ℕ) (R : ℕ → ℕ) → Holds (vec-items (now (nodes .entry))) p depth free top len R → Moved (vec-items (now (nodes .entry))) (vec-items (now (nodes .exit))) p depth r (with-top (nodeAt (vec-items (now (nodes .entry))) top .link) R) (with-top (nodeAt (vec-items (now (nodes .entry))) top .link) R)) ⌝ }
+    ensures { λ r. ⌜ Top-dropped (vec-items (now (nodes .entry))) (vec-items (now (nodes .exit))) free r top len ⌝ }
 {
     let node = nodes[top as usize];
     if node.holders > 1 {
@@ -69,7 +69,7 @@ pub fn drop_top(nodes: &mut Vec<Node>, free: u32, top: u32, len: u32) -> u32
 /// Lets a list go, and answers the first free node then: from the top down, nodes that nothing else holds become free.
 pub fn let_go(nodes: &mut Vec<Node>, free: u32, top: u32, len: u32) -> u32
     requires { ⌜ Holds-somehow (vec-items (now nodes)) free top len ⌝ }
-    ensures { λ r. ⌜ ((p depth : ℕ) (R : ℕ → ℕ) → Holds (vec-items (now (nodes .entry))) p depth free top len R → Moved (vec-items (now (nodes .entry))) (vec-items (now (nodes .exit))) p depth r R R) ⌝ }
+    ensures { λ r. ⌜ Let-go (vec-items (now (nodes .entry))) (vec-items (now (nodes .exit))) free r top len ⌝ }
 {
     let mut first = free;
     let mut at = top;

@@ -1,8 +1,7 @@
 //! The calls on a linked store.
-ghost use Prim.Native.Nat.{ℕ};
 ghost use mathlib.Core.Bool.{true};
 ghost use mathlib.Core.Path.{_≡_};
-ghost use lib.ListN.{length, drop};
+ghost use lib.ListN.{length};
 ghost use Rattle.std.specs.Of.Vec.{vec-items};
 ghost use Rattle.store.specs.Meaning.{cell-in};
 ghost use Rattle.bottom.specs.Limits.{accepted, cells-needed, split-at};

@@ -1,12 +1,12 @@
-use Prim.Native.Nat.{ℕ, _<_, _-_, _+_, _^_, _≤_}
+use Prim.Native.Nat.{ℕ, _<_, _-_, _+_, _^_}
 use mathlib.Core.List.{List}
-use mathlib.Core.Path.{_≡_, ap, sym, subst, _∙_}
+use mathlib.Core.Path.{_≡_, ap, sym, subst}
 use native.Mathlib.Omega.{arith}
-use lib.ListN.{length, set, length-set}
+use lib.ListN.{length, length-set}
 use Rattle.std.specs.Of.Vec.{vec-items}
 use Rattle.linked.specs.declared.node.Node.{Node}
 use Rattle.linked.specs.Chains.{nodeAt, with-top}
-use Rattle.linked.specs.Moves.{Holds-somehow, Moved, recounted, shared}
+use Rattle.linked.specs.Moves.{Holds-somehow, Moved, recounted}
 use Rattle.linked.proofs.Moving.{top-within, ends-within, ends-rest, read-node, pass-read, rid-read, left-le}
 use Rattle.linked.proofs.nodes.drop_top.Needs as need
 

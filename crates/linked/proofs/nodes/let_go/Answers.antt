@@ -1,6 +1,6 @@
-use Prim.Native.Nat.{ℕ, _<_, _-_, _+_, _≤_}
+use Prim.Native.Nat.{ℕ, _<_, _-_, _≤_}
 use mathlib.Core.List.{List}
-use mathlib.Core.Path.{_≡_, refl, ap, sym, subst, _∙_}
+use mathlib.Core.Path.{_≡_, refl, ap, sym, subst}
 use native.Mathlib.Omega.{arith}
 use lib.ListN.{length, getD, set}
 use Rattle.std.specs.Of.Vec.{vec-items}

@@ -1,12 +1,6 @@
-use Prim.Native.Nat.{ℕ, _+_}
-use mathlib.Core.Path.{_≡_, _∙_, sym}
-use mathlib.Core.List.{_∷_}
-use mathlib.Core.Bool.{true, false}
+use mathlib.Core.Path.{_∙_, sym}
 use native.Mathlib.Omega.{arith}
-use lib.Dec.{eqb}
-use lib.ListN.{getD, drop}
 use Rattle.std.proofs.shelf.Tests.{eq-eqb, ne-eqb, cond-true, cond-false}
-use Rattle.bottom.specs.Rows.{blank}
 use Rattle.bottom.proofs.Tables.{index-more, index-all}
 use Rattle.bottom.proofs.table.Table.find.Needs as need
 

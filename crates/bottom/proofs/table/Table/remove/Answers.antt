@@ -1,11 +1,11 @@
-use Prim.Native.Nat.{ℕ, _<_, _≤_, _-_}
-use mathlib.Core.Path.{_≡_, _∙_, ap, sym, refl}
+use Prim.Native.Nat.{ℕ, _-_}
+use mathlib.Core.Path.{_∙_, ap, sym, refl}
 use mathlib.Core.List.{_++_}
 use native.Mathlib.Omega.{arith}
 use borrow.Author.Needs.{needs}
 use Rattle.std.specs.Vec.{listOf}
 use Rattle.std.proofs.shelf.Lists.{length-take, length-drop}
-use Rattle.bottom.specs.Tables.{listed, spare}
+use Rattle.bottom.specs.Tables.{spare}
 use Rattle.bottom.proofs.Tables.{hit, miss, length-moved, remove-listed, remove-spare}
 use Rattle.bottom.proofs.table.Table.remove.Needs as need
 

@@ -1,9 +1,9 @@
-use Prim.Native.Nat.{ℕ, _+_, _*_, _≤_, min}
-use mathlib.Core.Path.{_≡_, _∙_, ap, sym, refl, subst}
+use Prim.Native.Nat.{ℕ, _*_, _≤_, min}
+use mathlib.Core.Path.{_≡_, _∙_, sym}
 use native.Mathlib.Omega.{arith}
 use lib.ListN.{length}
 use Rattle.std.specs.Of.Vec.{vec-items}
-use Rattle.bottom.specs.Limits.{cells-needed, in-range}
+use Rattle.bottom.specs.Limits.{cells-needed}
 use Rattle.bottom.proofs.Opened.{range-small, limit-is}
 use Rattle.copied.specs.Cells.{width}
 use Rattle.copied.proofs.Stores.{owed, blank-places, blank-fit}

@@ -1,15 +1,15 @@
-use Prim.Native.Nat.{ℕ, suc, _≤_, _<_, _+_, _-_}
-use mathlib.Core.Path.{_≡_, _∙_, ap, sym, refl, subst}
+use Prim.Native.Nat.{ℕ, suc, _<_, _-_}
+use mathlib.Core.Path.{_≡_, _∙_, ap, sym, subst}
 use mathlib.Core.Bool.{true}
 use native.Mathlib.Omega.{arith}
 use Rattle.std.specs.Finite.{nth}
 use Rattle.std.specs.Options.{okOr}
-use Rattle.std.specs.declared.option.Option.the-variants.{Some, None}
+use Rattle.std.specs.declared.option.Option.the-variants.{Some}
 use Rattle.std.proofs.shelf.Maps.{nth-past}
 use Rattle.linked.specs.declared.node.Node.{Node}
 use Rattle.linked.specs.declared.linked.Linked.{Linked}
 use Rattle.store.specs.declared.refusal.Refusal.the-variants.{NoIndex}
-use Rattle.linked.specs.Chains.{nodeAt, cells, ends, Ends}
+use Rattle.linked.specs.Chains.{nodeAt, cells, ends}
 use Rattle.linked.proofs.Changes.{ends-from, ends-to}
 use Rattle.linked.proofs.Facts.{length-cells, needed-small, cell-down, cell-top}
 use Rattle.linked.specs.Meant.{size}

@@ -1,4 +1,4 @@
-use Prim.Native.Nat.{suc, _≤_, _<_}
+use Prim.Native.Nat.{suc, _≤_}
 use mathlib.Core.Path.{_≡_}
 use mathlib.Core.Bool.{true}
 use Rattle.std.specs.Finite.{nth}

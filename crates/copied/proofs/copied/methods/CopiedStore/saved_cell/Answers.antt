@@ -1,16 +1,10 @@
-use Prim.Native.Nat.{ℕ, _<_, _≤_, _+_, _-_, _*_}
-use mathlib.Core.Path.{_≡_, _∙_, ap, sym, refl, subst}
+use Prim.Native.Nat.{_+_, _-_}
+use mathlib.Core.Path.{_∙_, ap, sym}
 use native.Mathlib.Omega.{arith}
-use borrow.Author.Needs.{needs}
-use lib.ListN.{length, drop}
-use lib.Seq.{paste}
-use Rattle.std.specs.Of.Vec.{vec-items, vec-len}
 use Rattle.std.specs.declared.option.Option.the-variants.{Some, None}
-use Rattle.std.specs.declared.result.Result.the-variants.{Ok, Err}
-use Rattle.std.proofs.shelf.Lists.{refilled-is}
-use Rattle.bottom.specs.Tables.{listed, spare}
-use Rattle.copied.specs.Cells.{width, cellAt, cells}
-use Rattle.copied.specs.Meant.{size, meant}
+use Rattle.std.specs.declared.result.Result.the-variants.{Ok}
+use Rattle.bottom.specs.Tables.{listed}
+use Rattle.copied.specs.Cells.{cellAt, cells}
 use Rattle.copied.specs.Parts.{read-row, part-start}
 use Rattle.copied.proofs.Stores.{words-of}
 use Rattle.std.specs.Options.{okOr}

@@ -1,17 +1,8 @@
-use Prim.Native.Nat.{ℕ, _<_, _≤_, _+_, _-_}
-use mathlib.Core.Path.{_≡_, _∙_, ap, sym, refl, subst}
-use mathlib.Core.List.{_∷_}
+use Prim.Native.Nat.{_<_, _-_}
+use mathlib.Core.Path.{refl}
 use native.Mathlib.Omega.{arith}
-use lib.ListN.{length, drop}
 use Rattle.std.specs.Of.Vec.{vec-items}
-use Rattle.std.specs.declared.option.Option.the-variants.{Some, None}
-use Rattle.std.specs.declared.result.Result.the-variants.{Ok, Err}
-use Rattle.bottom.specs.Tables.{listed}
-use Rattle.linked.specs.Chains.{cells}
-use Rattle.linked.specs.Meant.{size, meant, read-row}
-use Rattle.linked.proofs.Stores.{nodes-of, facts-of}
-use Rattle.linked.specs.declared.node.Node.{Node}
-use Rattle.linked.specs.Chains.{nodeAt}
+use Rattle.linked.proofs.Stores.{nodes-of}
 use Rattle.linked.proofs.Calls.{fixed-same, pop-somehow, pop-small, pop-owed, pop-means, pop-beyond}
 use Rattle.linked.proofs.Moving.{read-node}
 use Rattle.linked.proofs.Stores.{in-nodes, within-len, top-in}

@@ -1,14 +1,14 @@
-use Prim.Native.Nat.{ℕ, _≤_, _<_, _+_}
-use mathlib.Core.Path.{_≡_, _∙_, ap, sym, refl}
+use Prim.Native.Nat.{_+_}
+use mathlib.Core.Path.{_∙_, ap, sym, refl}
 use mathlib.Core.List.{[], _∷_, _++_}
 use Rattle.store.specs.Meaning.{with-current}
 use native.Mathlib.Omega.{arith}
 use Rattle.std.specs.declared.result.Result.the-variants.{Ok}
-use Rattle.bottom.specs.Meant.{bottom, by-rows}
+use Rattle.bottom.specs.Meant.{by-rows}
 use Rattle.bottom.specs.Tables.{listed}
 use Rattle.bottom.proofs.Tops.{pushed-full, pushed-room}
 use Rattle.linked.specs.declared.node.Node.{Node}
-use Rattle.linked.specs.Chains.{nodeAt, cells}
+use Rattle.linked.specs.Chains.{cells}
 use Rattle.linked.specs.Meant.{size, meant, read-row}
 use Rattle.linked.proofs.Facts.{length-cells, list-at, grown, push-facts, push-alike, push-cells, push-beyond, meant-alike}
 use Rattle.linked.proofs.Moving.{read-node}

@@ -1,19 +1,15 @@
-use Prim.Native.Nat.{ℕ, _<_, _≤_, _+_, _-_}
-use mathlib.Core.Path.{_≡_, _∙_, ap, sym, refl, subst}
-use mathlib.Core.List.{_∷_}
-use native.Mathlib.Omega.{arith}
-use lib.ListN.{length, drop}
+use Prim.Native.Nat.{_-_}
+use mathlib.Core.Path.{_∙_, ap, refl}
+use lib.ListN.{drop}
 use Rattle.std.specs.Of.Vec.{vec-items}
-use Rattle.std.specs.declared.option.Option.the-variants.{Some, None}
-use Rattle.std.specs.declared.result.Result.the-variants.{Ok, Err}
+use Rattle.std.specs.declared.result.Result.the-variants.{Err}
 use Rattle.std.proofs.shelf.Results.{err-from-errBy}
 use Rattle.bottom.specs.Tables.{listed}
-use Rattle.linked.specs.Chains.{cells}
-use Rattle.linked.specs.Meant.{size, meant, read-row}
+use Rattle.linked.specs.Meant.{size}
 use Rattle.linked.proofs.Stores.{nodes-of, facts-of}
 use Rattle.bottom.proofs.Rows.{added-refused}
 use Rattle.linked.proofs.Facts.{list-at}
-use Rattle.linked.proofs.Calls.{owed-same, meant-same, fixed-same, sharable, save-refused, save-owed, save-means, shared-beyond}
+use Rattle.linked.proofs.Calls.{owed-same, fixed-same, sharable, save-refused, save-owed, save-means, shared-beyond}
 use Rattle.linked.proofs.linked.methods.LinkedStore.save.Needs as need
 
 pub ghost-self : need.ghost-self

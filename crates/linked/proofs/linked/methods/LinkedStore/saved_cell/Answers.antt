@@ -1,15 +1,10 @@
-use Prim.Native.Nat.{ℕ, _<_, _≤_, _+_, _-_}
-use mathlib.Core.Path.{_≡_, _∙_, ap, sym, refl, subst}
-use mathlib.Core.List.{_∷_}
-use native.Mathlib.Omega.{arith}
-use lib.ListN.{length, drop}
-use Rattle.std.specs.Of.Vec.{vec-items}
+use Prim.Native.Nat.{_-_}
+use mathlib.Core.Path.{_∙_, sym}
 use Rattle.std.specs.declared.option.Option.the-variants.{Some, None}
-use Rattle.std.specs.declared.result.Result.the-variants.{Ok, Err}
 use Rattle.bottom.specs.Tables.{listed}
 use Rattle.linked.specs.Chains.{cells}
-use Rattle.linked.specs.Meant.{size, meant, read-row}
-use Rattle.linked.proofs.Stores.{nodes-of, facts-of}
+use Rattle.linked.specs.Meant.{size, read-row}
+use Rattle.linked.proofs.Stores.{nodes-of}
 use Rattle.bottom.proofs.Answered.{cell-of}
 use Rattle.linked.proofs.Calls.{row-fit}
 use Rattle.linked.proofs.Changes.{ends-to}
