@@ -1,0 +1,5 @@
+pub mod Rows
+pub mod Tables
+pub mod Tops
+pub mod Answered
+pub mod Opened
