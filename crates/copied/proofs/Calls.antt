@@ -32,7 +32,8 @@ use Rattle.bottom.proofs.Rows.{bit-same, places-push, places-without, places-no
 use Rattle.bottom.proofs.Tables.{spare-split}
 use Rattle.bottom.proofs.Tops.{popped-push, pushed-room}
 use Rattle.copied.specs.declared.copied.Copied.{Copied}
-use Rattle.copied.specs.Cells.{width, cellAt, cells}
+use Rattle.cell.specs.Filled.{width}
+use Rattle.copied.specs.Cells.{cellAt, cells}
 use Rattle.copied.specs.Meant.{size, meant}
 use Rattle.copied.specs.Parts.{part-start, read-row}
 use Rattle.copied.proofs.Regions.{cells-inside, cells-outside, cells-from, own-cell, written-beyond, written-long, part-below, part-past}

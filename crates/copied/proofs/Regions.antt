@@ -13,7 +13,8 @@ use Rattle.std.proofs.shelf.Edits.{length-paste}
 use Rattle.std.proofs.shelf.Lists.{same-lists, ext-getD, length-take, length-drop, length-append, getD-take, getD-drop, getD-append-left, getD-append-right, take-all}
 use Rattle.cell.specs.declared.cell.Cell.{Cell}
 use Rattle.bottom.specs.Limits.{cells-needed}
-use Rattle.copied.specs.Cells.{width, cellAt, cells}
+use Rattle.cell.specs.Filled.{width}
+use Rattle.copied.specs.Cells.{cellAt, cells}
 
 -- two lists that are made in the same way, place by place
 pub map-counting-eq : {X : Type 0} (f g : ℕ → X) (a b n : ℕ) → ((k : ℕ) → k < n → f (a + k) ≡ g (b + k)) → map f (counting a n) ≡ map g (counting b n)

@@ -16,7 +16,7 @@ use Rattle.bottom.specs.Rows.{blank, bit, places, every}
 use Rattle.bottom.specs.Tables.{listed, spare}
 use Rattle.bottom.proofs.Rows.{bit-other, bit-le, every-from, every-to}
 use Rattle.copied.specs.declared.copied.Copied.{Copied}
-use Rattle.copied.specs.Cells.{width}
+use Rattle.cell.specs.Filled.{width}
 use Rattle.copied.specs.Parts.{Apart, row-fits, place-fits}
 
 -- the words of a store

@@ -4,10 +4,7 @@ use mathlib.Core.List.{List, map}
 use lib.ListN.{take, drop}
 use Rattle.std.specs.Iters.{counting}
 use Rattle.cell.specs.declared.cell.Cell.{Cell}
-
--- how many words a cell has
-abbrev pub width : ℕ
-width = 4
+use Rattle.cell.specs.Filled.{width}
 
 -- the cell at an index: its words in a row
 abbrev pub cellAt : List ℕ → ℕ → Cell

@@ -9,7 +9,8 @@ use Rattle.bottom.specs.Limits.{cells-needed}
 use Rattle.bottom.specs.Meant.{by-rows}
 use Rattle.bottom.specs.Tables.{listed}
 use Rattle.copied.specs.declared.copied.Copied.{Copied}
-use Rattle.copied.specs.Cells.{width, cells}
+use Rattle.cell.specs.Filled.{width}
+use Rattle.copied.specs.Cells.{cells}
 use Rattle.copied.specs.Parts.{read-row}
 
 -- the words that a store needs

@@ -7,7 +7,7 @@ ghost use Rattle.std.specs.Of.Vec.{vec-items};
 ghost use Rattle.bottom.specs.Limits.{cells-needed};
 ghost use Rattle.bottom.specs.Rows.{every};
 ghost use Rattle.bottom.specs.Tables.{listed, spare};
-ghost use Rattle.copied.specs.Cells.{width};
+ghost use Rattle.cell.specs.Filled.{width};
 ghost use Rattle.copied.specs.Parts.{Apart, row-fits, place-fits};
 use bottom::table::Table;
 

@@ -3,7 +3,8 @@ ghost use Prim.Native.Nat.{_+_, _*_, _≤_};
 ghost use mathlib.Core.Path.{_≡_};
 ghost use lib.ListN.{length, drop};
 ghost use lib.Seq.{paste};
-ghost use Rattle.copied.specs.Cells.{width, cellAt};
+ghost use Rattle.cell.specs.Filled.{width};
+ghost use Rattle.copied.specs.Cells.{cellAt};
 use cell::cell::Cell;
 use cell::cell::WIDTH;
 

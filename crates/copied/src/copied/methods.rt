@@ -5,7 +5,7 @@ ghost use lib.ListN.{length};
 ghost use Rattle.std.specs.Of.Vec.{vec-items};
 ghost use Rattle.bottom.specs.Limits.{accepted, cells-needed, split-at};
 ghost use Rattle.bottom.specs.Meant.{opened};
-ghost use Rattle.copied.specs.Cells.{width};
+ghost use Rattle.cell.specs.Filled.{width};
 ghost use Rattle.copied.specs.Meant.{meant, fixed-of};
 use crate::copied::Copied;
 use crate::words;

@@ -4,7 +4,7 @@ use native.Mathlib.Omega.{arith}
 use borrow.Author.Needs.{needs}
 use lib.ListN.{length}
 use Rattle.std.proofs.shelf.Parts.{putMid-paste}
-use Rattle.copied.specs.Cells.{width}
+use Rattle.cell.specs.Filled.{width}
 use Rattle.copied.proofs.words.write_cell.Needs as need
 
 pub returns : need.returns

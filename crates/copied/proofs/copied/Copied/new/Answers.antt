@@ -5,7 +5,7 @@ use lib.ListN.{length}
 use Rattle.std.specs.Of.Vec.{vec-items}
 use Rattle.bottom.specs.Limits.{cells-needed}
 use Rattle.bottom.proofs.Opened.{range-small, limit-is}
-use Rattle.copied.specs.Cells.{width}
+use Rattle.cell.specs.Filled.{width}
 use Rattle.copied.proofs.Stores.{owed, blank-places, blank-fit}
 use Rattle.copied.proofs.copied.Copied.new.Needs as need
 

@@ -6,7 +6,8 @@ use lib.ListN.{length}
 use lib.Seq.{paste}
 use Rattle.std.specs.Of.Vec.{vec-len}
 use Rattle.std.proofs.shelf.Lists.{refilled-is}
-use Rattle.copied.specs.Cells.{width, cellAt}
+use Rattle.cell.specs.Filled.{width}
+use Rattle.copied.specs.Cells.{cellAt}
 use Rattle.copied.specs.Meant.{meant}
 use Rattle.copied.proofs.Stores.{words-of}
 use Rattle.std.proofs.shelf.Counted.{length-map-counting}

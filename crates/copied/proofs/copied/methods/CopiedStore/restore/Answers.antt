@@ -8,7 +8,7 @@ use Rattle.std.specs.Of.Vec.{vec-len}
 use Rattle.std.specs.declared.result.Result.the-variants.{Ok}
 use Rattle.std.proofs.shelf.Lists.{refilled-is}
 use Rattle.bottom.specs.Tables.{listed}
-use Rattle.copied.specs.Cells.{width}
+use Rattle.cell.specs.Filled.{width}
 use Rattle.copied.specs.Parts.{read-row}
 use Rattle.copied.proofs.Stores.{words-of}
 use Rattle.bottom.proofs.Answered.{restored-none, restored-some}

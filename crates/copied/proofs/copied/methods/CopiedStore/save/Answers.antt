@@ -8,7 +8,7 @@ use Rattle.std.specs.Of.Vec.{vec-len}
 use Rattle.std.specs.declared.result.Result.the-variants.{Err}
 use Rattle.std.proofs.shelf.Lists.{refilled-is}
 use Rattle.bottom.specs.Tables.{listed, spare}
-use Rattle.copied.specs.Cells.{width}
+use Rattle.cell.specs.Filled.{width}
 use Rattle.copied.proofs.Stores.{words-of}
 use Rattle.std.proofs.shelf.Results.{err-from-errBy}
 use Rattle.bottom.proofs.Rows.{added-refused}

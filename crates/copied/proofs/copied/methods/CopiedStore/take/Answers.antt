@@ -10,7 +10,7 @@ use Rattle.std.proofs.shelf.Lists.{refilled-is}
 use Rattle.store.specs.declared.refusal.Refusal.the-variants.{NotHeld}
 use Rattle.bottom.specs.Tables.{listed, spare}
 use Rattle.bottom.proofs.Rows.{without-none}
-use Rattle.copied.specs.Cells.{width}
+use Rattle.cell.specs.Filled.{width}
 use Rattle.copied.specs.Parts.{read-row}
 use Rattle.copied.proofs.Stores.{words-of}
 use Rattle.bottom.specs.Rows.{rows-without}
