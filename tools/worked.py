@@ -72,6 +72,7 @@ def main():
 use mathlib.Core.List.{{List, [], _∷_}}
 use Rattle.worked.specs.Rows.{{Row, row, sheet, limits, figures}}
 
+-- each sheet in one line, with the limits of its run and what the run comes to
 abbrev pub table : List Row
 table =
 {rows}    []

@@ -20,9 +20,11 @@ use Rattle.cell.specs.declared.wind_number.WindNumber.{WindNumber}
 abbrev pub address-of : ℕ → Address
 address-of n = record { 0 = n }
 
+-- a name, by its word
 abbrev pub name-of : ℕ → Name
 name-of n = record { 0 = n }
 
+-- a wind number, by its word
 abbrev pub wind-number-of : ℕ → WindNumber
 wind-number-of n = record { 0 = n }
 

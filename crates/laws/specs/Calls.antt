@@ -30,6 +30,7 @@ Served = List Answer × Run
 abbrev pub steps-of : Served → ℕ
 steps-of x = step-count (x .0)
 
+-- its joined output
 abbrev pub output-of : Served → List ℕ
 output-of x = joined-output (x .0)
 
@@ -40,6 +41,7 @@ pub record Buffer-kept (budget : ℕ) (buffer : List ℕ) (x : Ran) : Type 0 whe
   pub rest : drop (bytes-told (x .0)) (x .1) ≡ drop (bytes-told (x .0)) buffer
   pub steps : steps-told (x .0) ≤ budget
 
+-- that of every run call
 abbrev pub Buffers-kept : Type 0
 Buffers-kept = (r : Run) (budget : ℕ) (buffer : List ℕ) → Buffer-kept budget buffer (ran r budget buffer)
 
@@ -60,6 +62,7 @@ pub record Idle (r : Run) (x : Served) : Type 0 where
   pub output : output-of x ≡ []
   pub run : x .1 ≡ r
 
+-- that of every run that has ended, and every list of calls
 abbrev pub Ended-stays : Type 0
 Ended-stays = (r : Run) (e : End) (calls : List Call) → r .end ≡ Some e → Idle r (served r calls)
 
@@ -84,6 +87,7 @@ pub record One-course (code : List Instruction) (numbers : List ℤ) (l : Limits
   pub same-code : x .1 .code ≡ code
   pub same-limits : x .1 .limits ≡ l
 
+-- that of every run from its start, and every list of calls
 abbrev pub Calls-join : Type 0
 Calls-join =
     (code : List Instruction) (numbers : List ℤ) (l : Limits) (calls : List Call)
@@ -108,6 +112,7 @@ pub record Agree (code : List Instruction) (numbers : List ℤ) (l m : Limits) (
   pub no-longer : (e : End) → x .1 .end ≡ Some e → (Is-limit e → ⊥) → steps-of y ≤ steps-of x
   pub ends-alike : (e d : End) → Wider l m → x .1 .end ≡ Some e → (Is-limit e → ⊥) → y .1 .end ≡ Some d → (d ≡ e) × (steps-of y ≡ steps-of x)
 
+-- that of every two such runs, and every two lists of calls
 abbrev pub Two-runs-agree : Type 0
 Two-runs-agree =
     (code : List Instruction) (numbers : List ℤ) (l m : Limits) (calls others : List Call)

@@ -27,6 +27,7 @@ pub record Conserved (s : State) : Type 0 where
   pub names : s .counts .made ≡ s .counts .used + s .counts .forgotten + length (s .held)
   pub winds : s .counts .entered ≡ s .counts .left + length (s .winds)
 
+-- that always
 abbrev pub Counts-conserved : Type 0
 Counts-conserved = Always (λ l r. Conserved (r .state))
 
@@ -37,6 +38,7 @@ pub record Within-steps (c : Counts) : Type 0 where
   pub numbered : c .numbered ≤ c .steps
   pub entered : c .entered ≤ c .steps
 
+-- that always, and the steps are those of the course
 abbrev pub Counts-within-steps : Type 0
 Counts-within-steps = Always (λ l r. (r .state .counts .steps ≡ r .steps) × Within-steps (r .state .counts))
 
@@ -46,12 +48,15 @@ module _ (s : State) where
   abbrev pub Made : ℕ → Type 0
   Made n = n ≤ s .counts .made
 
+  -- so were the names in a value
   abbrev pub Value-made : Value → Type 0
   Value-made v = All Made (value-names v)
 
+  -- so were the names in a frame
   abbrev pub Frame-made : Frame → Type 0
   Frame-made f = All Made (frame-names f)
 
+  -- and so were all names in the state
   pub record Names-made : Type 0 where
     pub registers : All Value-made (s .registers)
     pub globals : All Value-made (s .globals)
@@ -59,6 +64,7 @@ module _ (s : State) where
     pub mode : All Made (mode-names (s .mode))
     pub held : All (λ (c : Capture). (c .name .0 ≤ s .counts .made) × All Frame-made (c .frames)) (s .held)
 
+-- that always
 abbrev pub All-names-made : Type 0
 All-names-made = Always (λ l r. Names-made (r .state))
 
@@ -68,6 +74,7 @@ entering [] = 0
 entering (enters n ∷ es) = suc (entering es)
 entering (leaves n ∷ es) = entering es
 
+-- how often the wind of a number was entered
 abbrev pub entering-of : ℕ → List Event → ℕ
 entering-of k [] = 0
 entering-of k (enters n ∷ es) = cond (eqb (n .0) k) 1 0 + entering-of k es
@@ -79,6 +86,7 @@ leaving [] = 0
 leaving (enters n ∷ es) = leaving es
 leaving (leaves n ∷ es) = suc (leaving es)
 
+-- how often the wind of a number was left
 abbrev pub leaving-of : ℕ → List Event → ℕ
 leaving-of k [] = 0
 leaving-of k (enters n ∷ es) = leaving-of k es
@@ -96,5 +104,6 @@ pub record Balanced (r : Course) : Type 0 where
   pub entered : r .state .counts .entered ≡ entering (r .trail)
   pub left : r .state .counts .left ≡ leaving (r .trail)
 
+-- that always
 abbrev pub Winds-balanced : Type 0
 Winds-balanced = Always (λ l r. Balanced r)

@@ -33,6 +33,7 @@ pub record Within (l : Limits) (s : State) : Type 0 where
   pub held : length (s .held) ≤ l .held
   pub saved : All (λ (c : Capture). (length (c .frames) ≤ l .frames) × (length (c .winds) ≤ l .winds)) (s .held)
 
+-- that always
 abbrev pub Limits-kept : Type 0
 Limits-kept = Always (λ l r. Within l (r .state))
 
@@ -105,8 +106,10 @@ pub record Winds-stand (s : State) : Type 0 where
   pub as-saved : (code : List Instruction) (a : Act) (n : Name) (c : Capture) → plan code s ≡ Ok (Go a) → a .frames ≡ Restore n
       → find capture-name (s .held) (n .0) ≡ Some c → wind-numbers (s .winds) ≡ wind-numbers (c .winds)
 
+-- that always
 abbrev pub Right-winds : Type 0
 Right-winds = Always (λ l r. Winds-stand (r .state))
 
+-- that always
 abbrev pub Never-reached : Type 0
 Never-reached = Always (λ l r. Unreached l (r .state))

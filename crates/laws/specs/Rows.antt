@@ -20,6 +20,7 @@ pub record Flag : Type 0 where
   pub name : ℕ
   pub once : Bool
 
+-- the same flag, for many throws
 abbrev pub many : Flag → Flag
 many z = record { name = z .name; once = false }
 
@@ -45,9 +46,11 @@ module _ {A B C : Type 0} (na : A → ℕ) (nb : B → ℕ) (nc : C → ℕ) whe
   Matched (x ∷ xs) (y ∷ ys) [] = ⊥
   Matched (x ∷ xs) (y ∷ ys) (z ∷ zs) = (na x ≡ nb y) × (na x ≡ nc z) × Matched xs ys zs
 
+-- the name of a kept list, as a number
 abbrev pub kept-name : {A : Type 0} → Kept A → ℕ
 kept-name x = x .name
 
+-- the name of a flag, as a number
 abbrev pub flag-name : Flag → ℕ
 flag-name z = z .name
 

@@ -8,6 +8,7 @@ use lib.Dec.{eqb, leb}
 abbrev pub within : ℕ → ℕ → ℕ → Bool
 within low high b = leb low b && leb b high
 
+-- so do all of these
 abbrev pub all-within : ℕ → ℕ → List ℕ → Bool
 all-within low high [] = true
 all-within low high (b ∷ bs) = within low high b && all-within low high bs

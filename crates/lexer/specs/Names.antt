@@ -21,5 +21,6 @@ is-name w = ltb 0 (length w) && (leb (length w) 12 && all-letters w)
 abbrev pub named : List ℕ → LabelName
 named w = record { letters = w ++ replicate (12 - length w) 0 }
 
+-- the name that bytes make, if they make one
 abbrev pub label-name : List ℕ → Option LabelName
 label-name w = cond (is-name w) (Some (named w)) None

@@ -64,6 +64,7 @@ portion l code (suc n) room s = portion-by (step l code s) s room (portion l cod
 abbrev pub most-budget : ℕ
 most-budget = 1000000
 
+-- the least buffer of a run call
 abbrev pub least-buffer : ℕ
 least-buffer = 12
 
@@ -100,6 +101,7 @@ abbrev pub steps-told : Result Progress RunRefusal → ℕ
 steps-told (Ok p) = p .steps
 steps-told (Err e) = 0
 
+-- the bytes that it tells
 abbrev pub bytes-told : Result Progress RunRefusal → ℕ
 bytes-told (Ok p) = p .bytes
 bytes-told (Err e) = 0
@@ -117,6 +119,7 @@ ending (Some e) s = Some (record { end = e; address = last-address s })
 abbrev pub name-tally : State → NameTally
 name-tally s = record { made = s .counts .made; used = s .counts .used; forgotten = s .counts .forgotten; held = length (s .held) }
 
+-- the figures of winds
 abbrev pub wind-tally : State → WindTally
 wind-tally s = record { entered = s .counts .entered; left = s .counts .left; current = length (s .winds) }
 
@@ -128,6 +131,7 @@ tallied s end = record { steps = s .counts .steps; names = name-tally s; winds =
 abbrev pub looked : State → ℕ → Result Frame IndexRefusal
 looked s i = okOr (nth (reverse (s .frames)) i) Beyond
 
+-- what force answers
 abbrev pub forced : State → ℕ → Result Wind IndexRefusal
 forced s i = okOr (nth (reverse (s .winds)) i) Beyond
 
@@ -172,6 +176,7 @@ steps-in (to-tally t) = 0
 steps-in (to-look r) = 0
 steps-in (to-force r) = 0
 
+-- the bytes that its call wrote
 abbrev pub output-in : Answer → List ℕ
 output-in (to-run r buffer) = take (bytes-told r) buffer
 output-in (to-tally t) = []

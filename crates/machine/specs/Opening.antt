@@ -24,9 +24,11 @@ pub record Offer : Type 0 where
 abbrev pub least-frames : ℕ
 least-frames = 16
 
+-- the least depth limit for winds
 abbrev pub least-winds : ℕ
 least-winds = 4
 
+-- the least held limit of either store
 abbrev pub least-held : ℕ
 least-held = 2
 
@@ -39,6 +41,7 @@ abbrev pub fit : ℕ → Offer → Bool
 fit least-depth o =
     eqb (o .length) 0 && (eqb (o .names) 0 && (leb least-held (o .held-limit) && leb least-depth (o .depth-limit)))
 
+-- whether both stores are fit
 abbrev pub both-fit : Offer → Offer → Bool
 both-fit frames winds = fit least-frames frames && fit least-winds winds
 

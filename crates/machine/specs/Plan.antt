@@ -17,5 +17,6 @@ plan-in (Going p) code s = fetched (nth code (p .0)) s p
 plan-in Returning code s = return (s .frames) s
 plan-in (Throwing n v) code s = throw n v s
 
+-- by the mode that the state has
 abbrev pub plan : List Instruction → State → Plan
 plan code s = plan-in (s .mode) code s

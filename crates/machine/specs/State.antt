@@ -41,9 +41,11 @@ for-many c = record { name = c .name; once = false; frames = c .frames; winds = 
 abbrev pub wind-number : Wind → ℕ
 wind-number w = w .number .0
 
+-- the numbers of winds, in their order
 abbrev pub wind-numbers : List Wind → List ℕ
 wind-numbers = map wind-number
 
+-- what a run counts
 pub record Counts : Type 0 where
   pub steps : ℕ
   -- names made, used and forgotten
@@ -55,6 +57,7 @@ pub record Counts : Type 0 where
   pub entered : ℕ
   pub left : ℕ
 
+-- all that a run is in, between two steps
 pub record State : Type 0 where
   pub registers : List Value
   pub globals : List Value

@@ -24,10 +24,12 @@ use Rattle.lexer.specs.Bytes.{same}
 use Rattle.lexer.specs.Names.{label-name}
 use Rattle.sheet.specs.Operands.{instruction as read-instruction}
 
+-- the labels and the instructions of the lines so far, each in order
 pub record Assembly : Type 0 where
   pub labels : List Label
   pub drafts : List Draft
 
+-- before the first line
 abbrev pub empty : Assembly
 empty = record { labels = []; drafts = [] }
 
@@ -55,6 +57,7 @@ added a line u =
     (Ok (record { labels = a .labels; drafts = a .drafts ++ (record { unresolved = u; line = line } ∷ []) }))
     (Err TooManyInstructions)
 
+-- a line of a kind, of number n
 abbrev pub by-kind : Assembly → ℕ → Kind → Result Assembly Fault
 by-kind a n blank = Ok a
 by-kind a n comment = Ok a

@@ -28,6 +28,7 @@ use Rattle.sheet.specs.Words.{mnemonic, arity}
 
 -- Operands.
 
+-- a number below a limit; whatever is wrong with it is a wrong form
 abbrev pub small : ℕ → Result ℕ Fault → Result ℕ Fault
 small limit (Ok n) = cond (ltb n limit) (Ok n) (Err BadOperand)
 small limit (Err e) = Err BadOperand
@@ -45,9 +46,11 @@ register w = lettered 114 8 w >>= λ n. Ok (record { 0 = n })
 abbrev pub global : List ℕ → Result Global Fault
 global w = lettered 103 32 w >>= λ n. Ok (record { 0 = n })
 
+-- a label that is named
 abbrev pub label : List ℕ → Result LabelName Fault
 label w = okOr (label-name w) BadOperand
 
+-- three registers, from the left
 abbrev pub registers : List ℕ → List ℕ → List ℕ → Result (Register × Register × Register) Fault
 registers a b c = register a >>= λ x. register b >>= λ y. register c >>= λ z. Ok (x, y, z)
 
@@ -93,5 +96,6 @@ abbrev pub by-word : Option Mnemonic → List (List ℕ) → Result Unresolved F
 by-word None ws = Err UnknownWord
 by-word (Some m) ws = cond (eqb (length ws) (arity m + 1)) (with-operands m (word-at ws 1) (word-at ws 2) (word-at ws 3)) (Err BadOperand)
 
+-- what an instruction line says
 abbrev pub instruction : List ℕ → Result Unresolved Fault
 instruction text = by-word (mnemonic (word-at (words text) 0)) (words text)

@@ -59,6 +59,7 @@ refusal-line NoInstruction = 0
 
 -- The lines, in order.
 
+-- goes on after a line that was taken; a fault is told with its line
 abbrev pub or-refused : ℕ → Result Assembly Fault → (Assembly → Result Assembly SheetRefusal) → Result Assembly SheetRefusal
 or-refused n (Ok a) go-on = go-on a
 or-refused n (Err f) go-on = Err (at-line f n)
@@ -93,14 +94,17 @@ aimed (DynamicWind b m t) a = DynamicWind b m t
 aimed Return a = Return
 aimed Stop a = Stop
 
+-- the label is there, or is missing
 abbrev pub aimed-at : Instruction → ℕ → Option Address → Result Instruction SheetRefusal
 aimed-at i line (Some a) = Ok (aimed i a)
 aimed-at i line None = Err (MissingLabel line)
 
+-- an instruction, and the label that it waits for if any
 abbrev pub resolved-by : List Label → Instruction → ℕ → Option LabelName → Result Instruction SheetRefusal
 resolved-by ls i line None = Ok i
 resolved-by ls i line (Some n) = aimed-at i line (target ls n)
 
+-- a draft with its label put in
 abbrev pub resolved : List Label → Draft → Result Instruction SheetRefusal
 resolved ls d = resolved-by ls (d .unresolved .instruction) (d .line) (d .unresolved .label)
 
@@ -111,6 +115,7 @@ resolved-onto is ls (d ∷ ds) = resolved ls d >>= λ i. resolved-onto (is ++ (i
 
 -- The whole sheet.
 
+-- a sheet has at least one instruction
 abbrev pub not-empty : List Instruction → Result (List Instruction) SheetRefusal
 not-empty [] = Err NoInstruction
 not-empty (i ∷ is) = Ok (i ∷ is)

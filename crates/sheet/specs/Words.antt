@@ -55,6 +55,7 @@ arity DynamicWind = 3
 arity Return = 0
 arity Stop = 0
 
+-- all of them
 abbrev pub vocabulary : List Mnemonic
 vocabulary = Set ∷ Proc ∷ Load ∷ Store ∷ Add ∷ Sub ∷ Less ∷ Jump ∷ Zero ∷ Push ∷ Pop ∷ Print ∷ Call ∷ Tail ∷ CallCc ∷ CallOnce ∷ Forget ∷ DynamicWind ∷ Return ∷ Stop ∷ []
 
@@ -63,5 +64,6 @@ abbrev pub spelled : List ℕ → List Mnemonic → Option Mnemonic
 spelled w [] = None
 spelled w (m ∷ ms) = cond (same w (spelling m)) (Some m) (spelled w ms)
 
+-- the word that bytes spell, if they spell one
 abbrev pub mnemonic : List ℕ → Option Mnemonic
 mnemonic w = spelled w vocabulary

@@ -48,5 +48,6 @@ Written read words m = read-as (λ c. filled (words (read c))) m ≡ m
 abbrev pub frame-refusal : Refusal → FrameRefusal
 frame-refusal e = record { 0 = e }
 
+-- a refusal of a store of winds
 abbrev pub wind-refusal : Refusal → WindRefusal
 wind-refusal e = record { 0 = e }

@@ -28,6 +28,7 @@ pub record Figures : Type 0 where
   pub entered : ℕ
   pub left : ℕ
 
+-- a sheet, its limits, and what its run is told to come to
 pub record Row : Type 0 where
   pub text : List ℕ
   pub limits : Limits
@@ -41,9 +42,11 @@ sheet s = map (λ b. cond (eqb b 47) 10 b) (codes s)
 abbrev pub limits : ℕ → ℕ → ℕ → Limits
 limits frames winds held = record { frames = frames; frames-level = 0; winds = winds; winds-level = 0; held = held }
 
+-- the figures of a run that has ended
 abbrev pub figures : List ℕ → ℕ → ℕ → ℕ → ℕ → Figures
 figures output end steps entered left = record { output = output; end = Some end; steps = steps; entered = entered; left = left }
 
+-- a row of the table
 abbrev pub row : List ℕ → Limits → Figures → Row
 row text l f = record { text = text; limits = l; told = f }
 
