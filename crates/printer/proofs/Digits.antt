@@ -2,16 +2,12 @@
 use Prim.Native.Nat.{ℕ, suc, _+_, _-_, _*_, _/_, _%_, _^_, _≤_, _<_}
 use native.Mathlib.Omega.{arith}
 use native.Mathlib.Nat.{div-lt-iff-lt-mul, pow-suc}
-use mathlib.Core.Bool.{true, false}
 use mathlib.Core.List.{List, [], _∷_, _++_, append-assoc}
 use mathlib.Core.Logic.{⊎-elim}
-use mathlib.Core.Path.{_≡_, refl, sym, ap, _∙_, subst}
-use lib.IntN.{ℤ, pos, negsuc, natAbs}
-use lib.Signed.{ltZ}
+use mathlib.Core.Path.{_≡_, ap, _∙_, subst}
 use Rattle.std.specs.Written.{decimal}
 use Rattle.std.proofs.shelf.Decimals.{decimal-step, decimal-digit}
-use Rattle.std.proofs.shelf.Tests.{cases-eq, ltb-true, true≢false}
-use Rattle.machine.specs.Printed.{line}
+use Rattle.std.proofs.shelf.Tests.{cases-eq}
 
 -- the last digit goes over to the rest
 pub digit-more : (m : ℕ) (text : List ℕ) → 10 ≤ m → m < 2 ^ 64 → decimal m ++ text ≡ decimal (m / 10) ++ (48 + m % 10) ∷ text
@@ -30,12 +26,3 @@ fewer-digits m k ten one h =
     (λ (e : k ≡ 1). let w : m < 10 ^ 1 = subst (λ n. m < 10 ^ n) e h in absurd (let z : ⊥ = omega arith in z))
     (λ ne. let e : k ≡ suc (k - 1) = omega arith in (omega arith, pow-less m (k - 1) (subst (λ n. m < 10 ^ n) e h)))
     (cases-eq k 1)
-
--- the line of a number below 0, and of another
-pub line-negative : (n : ℤ) → ltZ n (pos 0) ≡ true → 45 ∷ (decimal (natAbs n) ++ (10 ∷ [])) ≡ line n
-line-negative (pos a) h = absurd (let z : ⊥ = omega (arith, ltb-true a 0 h) in z)
-line-negative (negsuc a) h = refl
-
-pub line-natural : (n : ℤ) → ltZ n (pos 0) ≡ false → decimal (natAbs n) ++ (10 ∷ []) ≡ line n
-line-natural (pos a) h = refl
-line-natural (negsuc a) h = absurd (true≢false h)

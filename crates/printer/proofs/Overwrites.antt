@@ -10,7 +10,7 @@ use Rattle.std.specs.declared.option.Option.{Option}
 use Rattle.std.specs.declared.option.Option.the-variants.{Some, None}
 use Rattle.std.proofs.shelf.Lists.{length-take-le, drop-more, set-append-right, set-at, take-append-drop, take-more, take-more-set, take-set-le, drop-set-lt}
 use Rattle.std.proofs.shelf.Tests.{lt-leb, le-leb, cond-true, cond-false}
-use Rattle.printer.specs.Written.{overwrite, undone, written}
+use Rattle.printer.specs.Written.{overwrite, written}
 
 -- nothing written
 pub overwrite-none : (xs : List ℕ) (at : ℕ) → overwrite xs at [] ≡ xs
@@ -53,9 +53,9 @@ overwrite-more xs line at i h l =
     subst (λ k. set (overwrite xs at (take i line)) (at + k) b ≡ overwrite xs at (take i line ++ b ∷ [])) n (overwrite-push xs at (take i line) (omega arith) b)
     ∙ ap (overwrite xs at) (sym (take-more line i 0 l))
 
--- one byte more, kept before it is changed, leaves what the end would put back
-pub undone-more : (xs old : List ℕ) (at len b : ℕ) → at + len < length xs → len < length old → undone (set xs (at + len) b) at (len + 1) (set old len (getD xs (at + len) 0)) ≡ undone xs at len old
-undone-more xs old at len b h l =
+-- one byte more, its old one kept, and the same is put back
+pub restored-more : (xs old : List ℕ) (at len b : ℕ) → at + len < length xs → len < length old → overwrite (set xs (at + len) b) at (take (len + 1) (set old len (getD xs (at + len) 0))) ≡ overwrite xs at (take len old)
+restored-more xs old at len b h l =
     let n : length (take len old) ≡ len = length-take-le len old (omega arith) in
     ap (overwrite (set xs (at + len) b) at) (take-more-set old len (getD xs (at + len) 0) l)
     ∙ subst (λ k. overwrite (set xs (at + k) b) at (take len old ++ getD xs (at + k) 0 ∷ []) ≡ overwrite xs at (take len old)) n (overwrite-back xs at (take len old) (omega arith) b)

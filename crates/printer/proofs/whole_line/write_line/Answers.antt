@@ -10,7 +10,7 @@ use lib.ListN.{length, take, getD, set}
 use Rattle.std.specs.declared.option.Option.the-variants.{Some, None}
 use Rattle.std.proofs.shelf.Lists.{length-take-le, take-all}
 use Rattle.std.proofs.shelf.Tests.{ltb-true, ltb-false, cond-true}
-use Rattle.printer.specs.Written.{overwrite, undone, written}
+use Rattle.printer.specs.Written.{overwrite}
 use Rattle.printer.proofs.Overwrites.{overwrite-none, overwrite-more, length-overwrite, written-not, written-whole}
 use Rattle.printer.proofs.whole_line.write_line.Needs as need
 
@@ -29,7 +29,7 @@ loop-byte-holds c =
       none,
       omega (arith, g .inside),
       sym (overwrite-none (g .bytes .now) (c .args .at)),
-      ap (λ k. undone (g .bytes .now) (g .at) k (g .old)) none ∙ overwrite-none (g .bytes .now) (g .at),
+      ap (λ k. overwrite (g .bytes .now) (g .at) (take k (g .old))) none ∙ overwrite-none (g .bytes .now) (g .at),
     )
 
 pub loop-byte-again : need.loop-byte-again
