@@ -6,3 +6,6 @@ mod line_guard;
 mod line_text;
 pub mod print;
 mod whole_line;
+
+#[cfg(test)]
+mod tests;
