@@ -5,7 +5,6 @@ mod decimal;
 mod line_guard;
 mod line_text;
 pub mod print;
-mod whole_line;
-
 #[cfg(test)]
 mod tests;
+mod whole_line;
