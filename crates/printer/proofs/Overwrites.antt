@@ -1,12 +1,9 @@
 -- Laws of lists written over others, and taken back.
-use Prim.Native.Nat.{ℕ, _+_, _-_, _≤_, _<_, min}
+use Prim.Native.Nat.{ℕ, _+_, _-_, _≤_, _<_}
 use native.Mathlib.Omega.{arith}
 use mathlib.Core.Path.{_≡_, refl, sym, ap, _∙_, subst}
-use mathlib.Core.Bool.{true, false}
 use mathlib.Core.List.{List, [], _∷_, _++_, append-assoc}
-use lib.Dec.{leb}
 use lib.ListN.{getD, set, length, take, drop, length-append, length-drop, length-take}
-use Rattle.std.specs.declared.option.Option.{Option}
 use Rattle.std.specs.declared.option.Option.the-variants.{Some, None}
 use Rattle.std.proofs.shelf.Lists.{length-take-le, drop-more, set-append-right, set-at, take-append-drop, take-more, take-more-set, take-set-le, drop-set-lt}
 use Rattle.std.proofs.shelf.Tests.{lt-leb, le-leb, cond-true, cond-false}
