@@ -1,3 +1,5 @@
 pub mod Moving
 pub mod Rows
 pub mod Tables
+pub mod Marking
+pub mod Beginnings
