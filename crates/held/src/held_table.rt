@@ -5,6 +5,7 @@ ghost use mathlib.Core.Path.{_≡_};
 use crate::held_row::HeldRow;
 
 pub mod methods;
+pub mod promotion;
 
 /// How many rows a table has room for.
 pub const ROWS: usize = 64;
