@@ -4,3 +4,4 @@ pub mod Tables
 pub mod Promoting
 pub mod Marking
 pub mod Beginnings
+pub mod Saving
