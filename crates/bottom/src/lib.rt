@@ -1,6 +1,7 @@
 //! What the bottom stores share: the limits that they may be given, the table of held names, and the meaning of a
 //! store whose saved lists are read from the rows of that table.
 //! It rests on `cell` and `store`.
+#![tactic(auto)]
 
 pub mod limits;
 pub mod row;

@@ -1,5 +1,6 @@
 //! What registers, frames and winds are made of, the same for every store and for the machine, and how frames and winds are written to cells.
 //! It rests on nothing but the standard library.
+#![tactic(auto)]
 
 pub mod address;
 pub mod cell;

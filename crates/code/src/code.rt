@@ -1,7 +1,7 @@
 //! Code.
 ghost use Rattle.std.specs.Prelude.{◌≡◌, true, length};
 ghost use Rattle.bounded.specs.Listed.{listed};
-ghost use Rattle.code.specs.Fits.{all-fit};
+ghost use Rattle.code.specs.Fits.{all_fit as each_fit};
 
 use crate::instruction::Instruction;
 use bounded::bounded::Bounded;
@@ -16,5 +16,5 @@ pub const CAPACITY: usize = 256;
 #[derive(Drop)]
 pub struct Code {
     instructions: Bounded<Instruction, CAPACITY>,
-    ghost all_fit: { all-fit (length (listed instructions)) (listed instructions) ≡ true },
+    ghost all_fit: { each_fit (length (listed instructions)) (listed instructions) ≡ true },
 }

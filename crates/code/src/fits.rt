@@ -1,6 +1,6 @@
 //! Whether an instruction fits a code.
 ghost use Rattle.std.specs.Prelude.{◌≡◌, length};
-ghost use Rattle.code.specs.Fits.{fits as fitting, all-fit, is_register, is_global, reaches as reaching};
+ghost use Rattle.code.specs.Fits.{fits as fitting, all_fit, is_register, is_global, reaches as reaching};
 
 use crate::global::Global;
 use crate::instruction::Instruction;
@@ -67,7 +67,7 @@ pub fn fits(len: usize, instruction: Instruction) -> bool
 
 /// Whether these instructions, as a whole code, all fit.
 pub fn all_fit(instructions: &[Instruction]) -> bool
-    ensures { result ≡ all-fit (length instructions.now) instructions.now }
+    ensures { result ≡ all_fit (length instructions.now) instructions.now }
 {
     for instruction in instructions {
         if !fits(instructions.len(), *instruction) {

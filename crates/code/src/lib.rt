@@ -1,5 +1,6 @@
 //! The code that a rule sheet is read into: instructions with typed operands, and the list of them.
 //! It rests on `cell`, for addresses, and on `bounded`.
+#![tactic(auto)]
 
 pub mod code;
 pub mod fits;

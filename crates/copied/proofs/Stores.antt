@@ -35,32 +35,26 @@ spares_fit s = every-from _ _ (λ r e. ltb-true r.at s.table.limit e) (spare s.t
 -- what the fields of a store over so many words owe
 abbrev pub Owed : ℕ → Table → ℕ → ℕ → Type 0
 Owed long t depth len =
-    (width * cells_needed depth t.limit ≤ long)
-    × ((depth ≤ 4096)
-    × ((len ≤ depth)
-    × (Apart (listed t) (spare t)
-    × ((every (row_fits depth t.limit) (listed t) ≡ true)
-    × ((every (place_fits t.limit) (spare t) ≡ true) × Unit {0})))))
+    record {
+      room : width * cells_needed depth t.limit ≤ long;
+      flat : depth ≤ 4096;
+      fits : len ≤ depth;
+      apart : Apart (listed t) (spare t);
+      fitting : every (row_fits depth t.limit) (listed t) ≡ true;
+      free : every (place_fits t.limit) (spare t) ≡ true;
+    }
 
 -- a table with these rows and this limit owes what they do
 module _ (long : ℕ) (t : Table) (depth len limit : ℕ) (rs fs : List Row) (rows : listed t ≡ rs) (frees : spare t ≡ fs) (is : t.limit ≡ limit) where
   pub owed : width * cells_needed depth limit ≤ long → depth ≤ 4096 → len ≤ depth → Apart rs fs → All (RowFits depth limit) rs → All (PlaceFits limit) fs → Owed long t depth len
-  owed room flat fits apart fitting free = (
-    subst (λ m. width * cells_needed depth m ≤ long) (sym is) room,
-    (
-      flat,
-      (
-        fits,
-        (
-          (λ k. subst (λ xs. places xs k + places (spare t) k ≤ 1) (sym rows) (subst (λ ys. places rs k + places ys k ≤ 1) (sym frees) (apart k))),
-          (
-            every_to _ _ (λ r f. and_from _ _ (le-leb r.len depth f.0) (lt-ltb r.at t.limit f.1)) (listed t) (subst (All (RowFits depth t.limit)) (sym rows) (subst (λ m. All (RowFits depth m) rs) (sym is) fitting)),
-            (every_to _ _ (λ r f. lt-ltb r.at t.limit f) (spare t) (subst (All (PlaceFits t.limit)) (sym frees) (subst (λ m. All (PlaceFits m) fs) (sym is) free)), tt),
-          ),
-        ),
-      ),
-    ),
-  )
+  owed room flat fits apart fitting free = record {
+    room = subst (λ m. width * cells_needed depth m ≤ long) (sym is) room;
+    flat = flat;
+    fits = fits;
+    apart = λ k. subst (λ xs. places xs k + places (spare t) k ≤ 1) (sym rows) (subst (λ ys. places rs k + places ys k ≤ 1) (sym frees) (apart k));
+    fitting = every_to _ _ (λ r f. and_from _ _ (le-leb r.len depth f.0) (lt-ltb r.at t.limit f.1)) (listed t) (subst (All (RowFits depth t.limit)) (sym rows) (subst (λ m. All (RowFits depth m) rs) (sym is) fitting));
+    free = every_to _ _ (λ r f. lt-ltb r.at t.limit f) (spare t) (subst (All (PlaceFits t.limit)) (sym frees) (subst (λ m. All (PlaceFits m) fs) (sym is) free));
+  }
 
 -- the rows of a new table have places of their own
 pub blank-places : (a n k : ℕ) → (places (map blank (range_with_len a n)) k ≤ 1) × (k < a → places (map blank (range_with_len a n)) k ≡ 0)

@@ -2,6 +2,7 @@
 //! here of each is said over the parts of an engine as they are (`specs/Parts.antt`): what its stores mean, the rows of its held
 //! names, its words. That this is the machine's step is shown by `faithful`, above.
 //! It rests on `store`, `held`, `printer` and `code`, and on the definitions of `machine`.
+#![tactic(auto)]
 
 pub mod counters;
 pub mod engine;

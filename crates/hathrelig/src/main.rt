@@ -1,5 +1,6 @@
 //! The program: it reads a rule sheet from standard input and says what it read.
 //! It rests on `sheet` and `code`, where everything that matters is.
+#![tactic(auto)]
 
 use code::code::Code;
 use sheet::reader::{MOST_BYTES, read};

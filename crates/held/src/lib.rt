@@ -1,5 +1,6 @@
 //! What a run keeps of its held continuations, the questions about its two stores that a throw asks, and a save in both.
 //! It rests on `cell`, `store` and `bounded`, and on the definitions of `machine`.
+#![tactic(auto)]
 
 pub mod common;
 pub mod half_save;

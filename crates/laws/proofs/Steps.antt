@@ -1,5 +1,5 @@
 -- What holds of every step that is made, and so of every course of steps.
-use Rattle.std.proofs.Common.{◌≡◌, ℕ, zero, suc, ◌+◌, ◌<◌, ◌≤◌, Bool, true, false, cond, leb, List, [], ◌∷◌, ◌++◌, length, ℤ, Some, None, Ok, Err, Option, sym, refl, ap, subst, arith, length-append}
+use Rattle.std.proofs.Common.{◌≡◌, ℕ, zero, suc, ◌+◌, ◌<◌, ◌≤◌, Bool, true, false, cond, leb, List, [], ◌∷◌, ◌++◌, map, length, ℤ, Some, None, Ok, Err, Option, sym, refl, ap, subst, arith, length-append}
 use Rattle.std.specs.List.{AllByRecursion as All}
 use Rattle.std.proofs.lemmas.Bool.{leb-true, leb-false, ltb-true}
 use Rattle.std.proofs.ByRecursion.{All-map}
@@ -18,6 +18,7 @@ use Rattle.machine.specs.declared.wind_move.WindMove.TheVariants.{Stay, Open, Re
 use Rattle.machine.specs.declared.name_move.NameMove.{NameMove}
 use Rattle.machine.specs.declared.name_move.NameMove.TheVariants.{Keep as KeepNames, SaveMany, SaveOnce, Use, Forget}
 use Rattle.machine.specs.Named.{find}
+use Rattle.machine.specs.Names.{value_names}
 use Rattle.machine.specs.State.{State, Capture, Limits, Counts, capture_name, wind_numbers, start}
 use Rattle.machine.specs.Acts.{Plan}
 use Rattle.machine.specs.Plan.{plan}
@@ -265,7 +266,7 @@ good_course l code (suc n) s k = go (step l code s) (good_step l code s k) (good
     go (finished t) h ih = h
     go (refused e) h ih = (k, traced_stay s)
 
-numbers-made : (ns : List ℤ) → All (λ v. All (λ (n : ℕ). n ≤ 0) (Rattle.machine.specs.Names.value-names v)) (mathlib.Core.List.map Number ns)
+numbers-made : (ns : List ℤ) → All (λ v. All (λ (n : ℕ). n ≤ 0) (value_names v)) (map Number ns)
 numbers-made [] = tt
 numbers-made (z ∷ ns) = (tt, numbers-made ns)
 

@@ -1,5 +1,6 @@
 //! Layers: stores that are put over any other store, a depth quota and an underflow cache.
 //! It rests on `cell` and `store`.
+#![tactic(auto)]
 
 pub mod cache;
 pub mod quota;

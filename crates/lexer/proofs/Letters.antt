@@ -1,8 +1,8 @@
 -- Letters filled in one after the other.
-use Rattle.std.proofs.Common.{◌≡◌, ℕ, suc, ◌+◌, ◌-◌, ◌<◌, ◌≤◌, true, ltb, leb, List, [], ◌∷◌, ◌++◌, length, get_or, take, set, replicate, Some, sym, refl, ap, ◌∙◌, arith}
+use Rattle.std.proofs.Common.{◌≡◌, ℕ, suc, ◌+◌, ◌-◌, ◌<◌, ◌≤◌, true, ltb, leb, List, [], ◌∷◌, ◌++◌, length, get_or, take, set, replicate, Some, sym, ap, ◌∙◌, arith}
 use Rattle.std.proofs.lemmas.List.{append_assoc, length-take-le, set_at, take_more}
 use Rattle.std.proofs.lemmas.Bool.{lt-ltb, le-leb}
-use Rattle.lexer.specs.Names.{all_letters, named, label_name}
+use Rattle.lexer.specs.Names.{all_letters, label_name}
 
 room : (i : ℕ) → i < 12 → replicate {A = ℕ} (12 - i) 0 ≡ 0 ∷ replicate (12 - (i + 1)) 0
 room i h = let e : 12 - i ≡ suc (12 - (i + 1)) = omega arith in rw e

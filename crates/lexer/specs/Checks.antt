@@ -1,5 +1,5 @@
 -- Checks in a row: the first refusal is the answer.
-use Rattle.std.specs.Prelude.{Some, None, Ok, Err, Option, Result}
+use Rattle.std.specs.Prelude.{Ok, Err, Result}
 
 infixl 10 ◌>>=◌
 -- goes on with what a check let through

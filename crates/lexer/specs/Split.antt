@@ -1,5 +1,5 @@
 -- Bytes parted at a separator: a sheet into lines, a line into words.
-use Rattle.std.specs.Prelude.{ℕ, suc, Bool, true, false, cond, ◌&&◌, List, [], ◌∷◌, drop, Some, None, Option, ◌==◌, slice_index_or}
+use Rattle.std.specs.Prelude.{ℕ, suc, cond, List, [], ◌∷◌, drop, Some, None, Option, ◌==◌, slice_index_or}
 use Rattle.lexer.specs.declared.lines.Lines.{Lines}
 use Rattle.lexer.specs.declared.words.Words.{Words}
 

@@ -1,5 +1,6 @@
 //! The text of a rule sheet in small: its lines, the words of a line, and numbers and names.
 //! It rests on nothing but the standard library.
+#![tactic(auto)]
 
 pub mod bytes;
 pub mod fault;

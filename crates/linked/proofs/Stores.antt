@@ -44,18 +44,27 @@ facts_of s =
 -- what the fields of a store owe
 abbrev pub Owed : List Node → Table → ℕ → ℕ → ℕ → ℕ → Type 0
 Owed ns t depth f top len =
-    (cells_needed depth t.limit ≤ length ns)
-    × ((depth ≤ 4096)
-    × (Counted ns (cells_needed depth t.limit) (places (lists top len t))
-    × (Shallow ns (cells_needed depth t.limit) depth
-    × ((all_free ns (cells_needed depth t.limit) f ≡ true)
-    × ((every (row_fits ns (cells_needed depth t.limit) depth) (lists top len t) ≡ true) × Unit {0})))))
+    record {
+      room : cells_needed depth t.limit ≤ length ns;
+      flat : depth ≤ 4096;
+      counted : Counted ns (cells_needed depth t.limit) (places (lists top len t));
+      shallow : Shallow ns (cells_needed depth t.limit) depth;
+      spare : all_free ns (cells_needed depth t.limit) f ≡ true;
+      fitting : every (row_fits ns (cells_needed depth t.limit) depth) (lists top len t) ≡ true;
+    }
 
 -- a table with these rows and this limit goes with the facts
 pub owed : (ns : List Node) (t : Table) (depth f top len p : ℕ) (rs : List Row) → listed t ≡ rs → cells_needed depth t.limit ≡ p → depth ≤ 4096 → Facts ns p depth f (list_at top len ∷ rs) → Owed ns t depth f top len
 owed ns t depth f top len p rs rows need flat F =
     let G : Facts ns (cells_needed depth t.limit) depth f (lists top len t) = subst (λ q. Facts ns q depth f (lists top len t)) (sym need) (subst (λ xs. Facts ns p depth f (list_at top len ∷ xs)) (sym rows) F) in
-    (G.room, (flat, (G.sound.counted, (G.sound.shallow, (free_to ns _ (total (unheld ns) _) f G.sound.free, (every_to _ _ (fit_to ns _ depth) (lists top len t) G.fitting, tt))))))
+    record {
+      room = G.room;
+      flat = flat;
+      counted = G.sound.counted;
+      shallow = G.sound.shallow;
+      spare = free_to ns _ (total (unheld ns) _) f G.sound.free;
+      fitting = every_to _ _ (fit_to ns _ depth) (lists top len t) G.fitting;
+    }
 
 -- a node that is needed is there
 pub in_nodes : (s : Linked) (k : ℕ) → k < size s → k < length (nodes_of s)

@@ -1,5 +1,6 @@
 //! Linked frames: a bottom store whose lists share their lower nodes.
 //! It rests on `cell`, `store` and `bottom`.
+#![tactic(auto)]
 
 pub mod linked;
 pub mod node;

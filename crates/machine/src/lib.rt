@@ -3,6 +3,7 @@
 //! of ends, reasons and refusals.
 //! It rests on `cell`, for values, frames and winds, on `code`, for instructions, and on `store` only for how
 //! a store refuses.
+#![tactic(auto)]
 
 pub mod act;
 pub mod end;

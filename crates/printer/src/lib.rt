@@ -1,5 +1,6 @@
 //! Lines of print, written into a buffer whole or not at all.
 //! It rests on `machine`, for the definition of a printed line.
+#![tactic(auto)]
 
 mod decimal;
 mod line_guard;

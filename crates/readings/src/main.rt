@@ -1,5 +1,6 @@
 //! Reads each sheet of a table and prints what the reader answers, a line for each, as an independent evaluator does.
 //! It rests on `sheet` and `code`.
+#![tactic(auto)]
 
 use crate::decode::Decoder;
 use code::code::Code;

@@ -1,5 +1,6 @@
 //! Reading a rule sheet: from its bytes to code, or to the first refusal with its line.
 //! It rests on `lexer` for lines and words, on `code`, on `cell` for addresses, and on `bounded` for its tables.
+#![tactic(auto)]
 
 pub mod assembly;
 pub mod draft;

@@ -1,5 +1,5 @@
 -- A call on a store of cells, as one on its elements.
-use Rattle.std.proofs.Common.{◌≡◌, ℕ, List, Result, sym, refl, ap, ◌∙◌}
+use Rattle.std.proofs.Common.{◌≡◌, ℕ, List, Result, sym, ap, ◌∙◌}
 use Rattle.cell.specs.Filled.{filled}
 use Rattle.cell.specs.declared.cell.Cell.{Cell}
 use Rattle.store.specs.declared.refusal.Refusal.{Refusal}

@@ -7,14 +7,14 @@ use Rattle.held.proofs.save_both.save_both.Goals as goal
 pub returns-in-Err : goal.returns-in-Err
 returns-in-Err g c =
     let f = read_as frame_in (g.F.Store.meaning c.args.frames.now) in
-    let saved = read_as frame_in (g.F.Store.meaning c.save-frames.new.frames) in
-    let after = read_as frame_in (g.F.Store.meaning c.give-up.new.frames) in
+    let saved = read_as frame_in (g.F.Store.meaning c.save_frames.new.frames) in
+    let after = read_as frame_in (g.F.Store.meaning c.give_up.new.frames) in
     let w = read_as wind_in (g.W.Store.meaning c.args.winds.now) in
-    let v = read_as wind_in (g.W.Store.meaning c.save-winds.new.winds) in
+    let v = read_as wind_in (g.W.Store.meaning c.save_winds.new.winds) in
     record {
-      call = both_refused f saved after w v c.args.name c.in-ok-half.half c.in-Err.field-0 c.in-ok-half.ensures.call c.in-Err.ensures.call c.give-up.ensures.call;
-      frames-written = λ h. c.give-up.ensures.written (c.in-ok-half.ensures.written h);
-      winds-written = c.save-winds.ensures.written;
-      frames-memory = c.give-up.ensures.memory ∙ c.in-ok-half.ensures.memory;
-      winds-memory = c.save-winds.ensures.memory;
+      call = both_refused f saved after w v c.args.name c.in_ok-half.half c.in-Err.field-0 c.in_ok-half.ensures.call c.in-Err.ensures.call c.give_up.ensures.call;
+      frames_written = λ h. c.give_up.ensures.written (c.in_ok-half.ensures.written h);
+      winds_written = c.save_winds.ensures.written;
+      frames_memory = c.give_up.ensures.memory ∙ c.in_ok-half.ensures.memory;
+      winds_memory = c.save_winds.ensures.memory;
     }

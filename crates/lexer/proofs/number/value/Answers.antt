@@ -1,4 +1,4 @@
-use Rattle.std.proofs.Common.{◌≡◌, ◌+◌, ◌*◌, ◌^◌, ◌≤◌, drop, sym, ap, ◌∙◌, arith}
+use Rattle.std.proofs.Common.{◌+◌, ◌*◌, ◌^◌, ◌≤◌, drop, sym, ap, ◌∙◌, arith}
 use native.Mathlib.Nat.{pow-le-pow_right}
 use Rattle.std.proofs.lemmas.List.{at_drop_all}
 use Rattle.lexer.specs.Number.{value_after}
@@ -6,8 +6,8 @@ use Rattle.lexer.proofs.Digits.{value_more, power_more}
 use Rattle.lexer.proofs.Ranges.{within-here}
 use Rattle.lexer.proofs.number.value.Goals as goal
 
-pub overflow-sub-b : goal.overflow-sub-b
-overflow-sub-b c = (within-here 48 57 c.args.digits.now c.loop-b.b-index c.loop-b-test.true c.loop-b.invariant.1).0
+pub overflow_sub-b : goal.overflow_sub-b
+overflow_sub-b c = (within-here 48 57 c.args.digits.now c.loop-b.b-index c.loop-b-test.true c.loop-b.invariant.1).0
 
 pub loop-b-preserved : goal.loop-b-preserved
 loop-b-preserved c =

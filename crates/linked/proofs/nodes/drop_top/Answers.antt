@@ -16,11 +16,11 @@ module _ (ns : List Node) (f t n : ℕ) (H : HoldsSomehow ns f t n) (some : 0 < 
 pub index-node-requires : goal.index-node-requires
 index-node-requires c = let v = c.args.nodes.now in let a = in_nodes (vec_items v) c.args.free c.args.top c.args.len c.requires.held c.requires.some in let b = v.ok.0 in omega arith
 
-pub index-mut-requires : goal.index-mut-requires
-index-mut-requires c = let v = c.args.nodes.now in let a = in_nodes (vec_items v) c.args.free c.args.top c.args.len c.requires.held c.requires.some in let b = v.ok.0 in omega arith
+pub index_mut-requires : goal.index_mut-requires
+index_mut-requires c = let v = c.args.nodes.now in let a = in_nodes (vec_items v) c.args.free c.args.top c.args.len c.requires.held c.requires.some in let b = v.ok.0 in omega arith
 
-pub index-mut-requires-2 : goal.index-mut-requires-2
-index-mut-requires-2 c = let v = c.args.nodes.now in let a = in_nodes (vec_items v) c.args.free c.args.top c.args.len c.requires.held c.requires.some in let b = v.ok.0 in omega arith
+pub index_mut-requires-2 : goal.index_mut-requires-2
+index_mut-requires-2 c = let v = c.args.nodes.now in let a = in_nodes (vec_items v) c.args.free c.args.top c.args.len c.requires.held c.requires.some in let b = v.ok.0 in omega arith
 
 pub share-requires : goal.share-requires
 share-requires c l =

@@ -47,36 +47,36 @@ index-node-requires c =
     let b = v.ok.0 in
     omega arith
 
-pub index-mut-requires : goal.index-mut-requires
-index-mut-requires c =
+pub index_mut-requires : goal.index_mut-requires
+index_mut-requires c =
     let v = c.loop-left.nodes in
     let a = in_nodes (vec_items c.args.nodes.now) (vec_items v) c.args.free c.args.top c.args.len c.loop-left.first c.loop-left.at c.loop-left.left c.requires c.loop-left.invariant c.loop-left-test.true in
     let b = v.ok.0 in
     omega arith
 
-pub index-mut-requires-in-loop-left : goal.index-mut-requires-in-loop-left
-index-mut-requires-in-loop-left c =
+pub index_mut-requires-in-loop-left : goal.index_mut-requires-in-loop-left
+index_mut-requires-in-loop-left c =
     let v = c.loop-left.nodes in
     let a = in_nodes (vec_items c.args.nodes.now) (vec_items v) c.args.free c.args.top c.args.len c.loop-left.first c.loop-left.at c.loop-left.left c.requires c.loop-left.invariant c.loop-left-test.true in
     let b = v.ok.0 in
     omega arith
 
-pub overflow-cast-at : goal.overflow-cast-at
-overflow-cast-at c =
+pub overflow_cast-at : goal.overflow_cast-at
+overflow_cast-at c =
     let v = c.loop-left.nodes in
     let a = in_nodes (vec_items c.args.nodes.now) (vec_items v) c.args.free c.args.top c.args.len c.loop-left.first c.loop-left.at c.loop-left.left c.requires c.loop-left.invariant c.loop-left-test.true in
     let b = v.ok.0 in
     omega arith
 
-pub overflow-cast-at-then-node-gt1 : goal.overflow-cast-at-then-node-gt1
-overflow-cast-at-then-node-gt1 c =
+pub overflow_cast-at-then-node-gt1 : goal.overflow_cast-at-then-node-gt1
+overflow_cast-at-then-node-gt1 c =
     let v = c.loop-left.nodes in
     let a = in_nodes (vec_items c.args.nodes.now) (vec_items v) c.args.free c.args.top c.args.len c.loop-left.first c.loop-left.at c.loop-left.left c.requires c.loop-left.invariant c.loop-left-test.true in
     let b = v.ok.0 in
     omega arith
 
-pub overflow-cast-at-in-loop-left : goal.overflow-cast-at-in-loop-left
-overflow-cast-at-in-loop-left c =
+pub overflow_cast-at-in-loop-left : goal.overflow_cast-at-in-loop-left
+overflow_cast-at-in-loop-left c =
     let v = c.loop-left.nodes in
     let a = in_nodes (vec_items c.args.nodes.now) (vec_items v) c.args.free c.args.top c.args.len c.loop-left.first c.loop-left.at c.loop-left.left c.requires c.loop-left.invariant c.loop-left-test.true in
     let b = v.ok.0 in

@@ -3,8 +3,8 @@ use Rattle.linked.specs.declared.node.Node.{Node}
 use Rattle.linked.proofs.Moving.{read_node}
 use Rattle.linked.proofs.nodes.share.Goals as goal
 
-pub overflow-add-node : goal.overflow-add-node
-overflow-add-node c =
+pub overflow_add-node : goal.overflow_add-node
+overflow_add-node c =
     let some : 0 < c.args.len = let n = c.if-len-eq0.false in omega arith in
     let p = c.requires some in
     let h = p.1 in

@@ -4,10 +4,10 @@ use Rattle.sheet.specs.Operands.{small}
 use Rattle.sheet.proofs.Lettered.{lettered-first}
 use Rattle.sheet.proofs.operands.lettered.Goals as goal
 
-pub returns-in-default : goal.returns-in-default
-returns-in-default c =
+pub returns-in_default : goal.returns-in_default
+returns-in_default c =
     let some : 0 < length c.args.word.now = search rules in
-    sym (lettered-first c.args.letter c.args.limit c.args.word.now some c.if-first-letter.false ∙ ap (small c.args.limit) (sym c.in-default.ensures))
+    sym (lettered-first c.args.letter c.args.limit c.args.word.now some c.if-first-letter.false ∙ ap (small c.args.limit) (sym c.in_default.ensures))
 
 pub returns-then-n-from : goal.returns-then-n-from
 returns-then-n-from c =

@@ -13,19 +13,19 @@ loop-line-init c =
     )
 
 pub loop-line-smaller : goal.loop-line-smaller
-loop-line-smaller c = omega (arith, ap length (uncons_some (lines_left c.loop-line.lines) (lines_left c.next-line.new.self) c.in-Some.line.now c.in-Some.ensures))
+loop-line-smaller c = omega (arith, ap length (uncons_some (lines_left c.loop-line.lines) (lines_left c.next_line.new.self) c.in-Some.line.now c.in-Some.ensures))
 
 pub returns-in-Err : goal.returns-in-Err
 returns-in-Err c =
-    ap Err c.at-line.ensures
+    ap Err c.at_line.ensures
     ∙ sym (c.loop-line.invariant.0 ∙ line-stop (assembly_of c.loop-line.assembly) c.loop-line.number c.in-Some.line.now _ _ (uncons_some _ _ _ c.in-Some.ensures) c.in-Err.fault c.in-Err.ensures)
 
 pub loop-line-preserved : goal.loop-line-preserved
 loop-line-preserved c =
     let first = uncons_some _ _ _ c.in-Some.ensures in (
-      c.loop-line.invariant.0 ∙ line_more (assembly_of c.loop-line.assembly) c.loop-line.number c.in-Some.line.now _ _ first _ c.in-default-take-line.ensures,
+      c.loop-line.invariant.0 ∙ line_more (assembly_of c.loop-line.assembly) c.loop-line.number c.in-Some.line.now _ _ first _ c.in_default-take_line.ensures,
       omega (arith, ap length first, c.loop-line.invariant.1),
     )
 
 pub returns : goal.returns
-returns c = sym (c.loop-line.invariant.0 ∙ ap (assembled (assembly_of c.loop-line.assembly) c.loop-line.number) (uncons_none _ _ c.in-default.ensures))
+returns c = sym (c.loop-line.invariant.0 ∙ ap (assembled (assembly_of c.loop-line.assembly) c.loop-line.number) (uncons_none _ _ c.in_default.ensures))

@@ -6,16 +6,16 @@ use Rattle.sheet.specs.Reading.{resolved_onto}
 use Rattle.sheet.proofs.Assembling.{draft_stop, draft_more}
 use Rattle.sheet.proofs.resolve.resolve_all.Goals as goal
 
-pub returns-in-err-resolve : goal.returns-in-err-resolve
-returns-in-err-resolve c =
-    let p = err_from_is_err_and c.from-residual.result c.from-residual.ensures.1 in
-    let stop = draft_stop c.args.labels.now c.args.drafts.now (listed c.loop-draft.list) c.loop-draft.draft-index _ c.loop-draft-test.true _ c.in-err-resolve.ensures in
+pub returns-in_err-resolve : goal.returns-in_err-resolve
+returns-in_err-resolve c =
+    let p = err_from_is_err_and c.from_residual.result c.from_residual.ensures.1 in
+    let stop = draft_stop c.args.labels.now c.args.drafts.now (listed c.loop-draft.list) c.loop-draft.draft-index _ c.loop-draft-test.true _ c.in_err-resolve.ensures in
     rw (p.1, p.2) (sym (c.loop-draft.invariant.0 ∙ stop))
 
 pub loop-draft-preserved : goal.loop-draft-preserved
 loop-draft-preserved c =
     let more = draft_more c.args.labels.now c.args.drafts.now (listed c.loop-draft.list) c.loop-draft.draft-index _ c.loop-draft-test.true
-    c.in-ok-resolve.field-0 (listed c.push.new.self) c.push.result c.in-ok-resolve.ensures c.loop-draft.invariant.1 c.requires c.push.ensures in
+    c.in_ok-resolve.field-0 (listed c.push.new.self) c.push.result c.in_ok-resolve.ensures c.loop-draft.invariant.1 c.requires c.push.ensures in
     (c.loop-draft.invariant.0 ∙ more.0, more.1)
 
 pub returns : goal.returns

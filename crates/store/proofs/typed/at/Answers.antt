@@ -7,4 +7,4 @@ pub returns : goal.returns
 returns g c =
     let read = g.E.Element.read in
     let m = g.S.Store.meaning c.args.store.now in
-    asked_as g.E.Listed.refused (answer_as read) c.cell-at.result _ _ c.element-in.result c.element-in.ensures c.cell-at.ensures (cell_in_as read m.current c.args.index)
+    asked_as g.E.Listed.refused (answer_as read) c.cell_at.result _ _ c.element_in.result c.element_in.ensures c.cell_at.ensures (cell_in_as read m.current c.args.index)

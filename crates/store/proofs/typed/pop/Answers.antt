@@ -9,7 +9,7 @@ returns g c =
     let m = g.S.Store.meaning c.args.store.now in
     let left = g.S.Store.meaning c.pop.new.self in
     record {
-      call = pop_as read words wrap m left c.pop.result c.pop.ensures.call c.element-in.result c.element-in.ensures;
+      call = pop_as read words wrap m left c.pop.result c.pop.ensures.call c.element_in.result c.element_in.ensures;
       written = pop_written read words wrap m left c.pop.result c.pop.ensures.call;
       memory = c.pop.ensures.memory;
     }

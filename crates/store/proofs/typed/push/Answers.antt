@@ -9,7 +9,7 @@ returns g c =
     let m = g.S.Store.meaning c.args.store.now in
     let left = g.S.Store.meaning c.push.new.self in
     record {
-      call = push_as read words wrap m left c.push.result c.to-cell.result c.args.element c.push.ensures.call c.to-cell.ensures.faithful c.refused-in.result c.refused-in.ensures;
-      written = push_written read words wrap m left c.push.result c.to-cell.result c.args.element c.push.ensures.call c.to-cell.ensures.faithful c.to-cell.ensures.words;
+      call = push_as read words wrap m left c.push.result c.to_cell.result c.args.element c.push.ensures.call c.to_cell.ensures.faithful c.refused_in.result c.refused_in.ensures;
+      written = push_written read words wrap m left c.push.result c.to_cell.result c.args.element c.push.ensures.call c.to_cell.ensures.faithful c.to_cell.ensures.words;
       memory = c.push.ensures.memory;
     }

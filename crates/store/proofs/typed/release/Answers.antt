@@ -12,7 +12,7 @@ returns g c =
     let left = g.S.Store.meaning c.release.new.self in
     let name = c.args.name.0 in
     record {
-      call = call_as read words wrap m left c.release.result (λ A k. released k name) (λ A B f k. released_as f k name) c.release.ensures.call c.refused-in.result c.refused-in.ensures;
+      call = call_as read words wrap m left c.release.result (λ A k. released k name) (λ A B f k. released_as f k name) c.release.ensures.call c.refused_in.result c.refused_in.ensures;
       written = call_written read words wrap m left c.release.result (λ A k. released k name) (λ A B f k. released_as f k name) c.release.ensures.call;
       memory = c.release.ensures.memory;
     }

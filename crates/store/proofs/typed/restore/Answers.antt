@@ -12,7 +12,7 @@ returns g c =
     let left = g.S.Store.meaning c.restore.new.self in
     let name = c.args.name.0 in
     record {
-      call = call_as read words wrap m left c.restore.result (λ A k. restored k name) (λ A B f k. restored_as f k name) c.restore.ensures.call c.refused-in.result c.refused-in.ensures;
+      call = call_as read words wrap m left c.restore.result (λ A k. restored k name) (λ A B f k. restored_as f k name) c.restore.ensures.call c.refused_in.result c.refused_in.ensures;
       written = call_written read words wrap m left c.restore.result (λ A k. restored k name) (λ A B f k. restored_as f k name) c.restore.ensures.call;
       memory = c.restore.ensures.memory;
     }

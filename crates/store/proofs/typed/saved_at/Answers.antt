@@ -10,4 +10,4 @@ returns g c =
     let m = g.S.Store.meaning c.args.store.now in
     let name = c.args.name.0 in
     let index = c.args.index in
-    asked_as g.E.Listed.refused (answer_as read) c.saved-cell.result (saved_cell_in m name index) (saved_cell_in (read_as read m) name index) c.element-in.result c.element-in.ensures c.saved-cell.ensures (saved_cell_as read m name index)
+    asked_as g.E.Listed.refused (answer_as read) c.saved_cell.result (saved_cell_in m name index) (saved_cell_in (read_as read m) name index) c.element_in.result c.element_in.ensures c.saved_cell.ensures (saved_cell_as read m name index)

@@ -6,4 +6,4 @@ pub returns : goal.returns
 returns g c =
     let read = g.E.Element.read in
     let m = g.S.Store.meaning c.args.store.now in
-    asked_as g.E.Listed.refused (λ t. t) c.saved-len.result _ _ c.refused-in.result c.refused-in.ensures c.saved-len.ensures (saved_length_as read m c.args.name.0)
+    asked_as g.E.Listed.refused (λ t. t) c.saved_len.result _ _ c.refused_in.result c.refused_in.ensures c.saved_len.ensures (saved_length_as read m c.args.name.0)

@@ -12,7 +12,7 @@ returns g c =
     let left = g.S.Store.meaning c.take.new.self in
     let name = c.args.name.0 in
     record {
-      call = call_as read words wrap m left c.take.result (λ A k. taken k name) (λ A B f k. taken_as f k name) c.take.ensures.call c.refused-in.result c.refused-in.ensures;
+      call = call_as read words wrap m left c.take.result (λ A k. taken k name) (λ A B f k. taken_as f k name) c.take.ensures.call c.refused_in.result c.refused_in.ensures;
       written = call_written read words wrap m left c.take.result (λ A k. taken k name) (λ A B f k. taken_as f k name) c.take.ensures.call;
       memory = c.take.ensures.memory;
     }

@@ -11,4 +11,4 @@ free-rows rows limit m is e =
     ap (λ k. take k rows) n ∙ ap (take (min limit 64)) is ∙ take-map-range_with_len blank 0 64 (min limit 64) (omega arith)
 
 pub returns : goal.returns
-returns c = record { listed = refl; spare = free-rows c.blank-rows.result c.args.limit c.min.result c.blank-rows.ensures c.min.ensures; limit = c.min.ensures }
+returns c = record { listed = refl; spare = free-rows c.blank_rows.result c.args.limit c.min.result c.blank_rows.ensures c.min.ensures; limit = c.min.ensures }

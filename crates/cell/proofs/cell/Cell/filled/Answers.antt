@@ -1,4 +1,4 @@
-use Rattle.std.proofs.Common.{◌≡◌, ℕ, List, get_or, set, ap, ◌∙◌, arith}
+use Rattle.std.proofs.Common.{ℕ, List, get_or, set, ap, ◌∙◌, arith}
 use Rattle.cell.specs.Filled.{width}
 use Rattle.cell.specs.declared.cell.Cell.{Cell}
 use Rattle.cell.proofs.Filling.{begun_more, begun_all}

@@ -14,5 +14,5 @@ use Rattle.engine.proofs.engine.Engine.capture_many.Goals as goal
 pub returns : goal.returns
 returns g c =
     let p = parts_of g.F.Store.meaning g.W.Store.meaning c.args.self.now in
-    c.capture-many-as.ensures
-    ∙ ap (λ n. carry_as n (naming SaveMany (writing (ToRegister zeroth (Continuation n)) (framing (Push (Back c.args.back)) (moves (Going c.args.body))))) p) c.next-name.ensures
+    c.capture_many_as.ensures
+    ∙ ap (λ n. carry_as n (naming SaveMany (writing (ToRegister zeroth (Continuation n)) (framing (Push (Back c.args.back)) (moves (Going c.args.body))))) p) c.next_name-name.ensures

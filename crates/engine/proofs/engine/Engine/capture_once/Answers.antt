@@ -14,5 +14,5 @@ use Rattle.engine.proofs.engine.Engine.capture_once.Goals as goal
 pub returns : goal.returns
 returns g c =
     let p = parts_of g.F.Store.meaning g.W.Store.meaning c.args.self.now in
-    c.capture-once-as.ensures
-    ∙ ap (λ n. carry_as n (naming SaveOnce (writing (ToRegister zeroth (Continuation n)) (framing (PushBoth (Back c.args.back) (Mark n)) (moves (Going c.args.body))))) p) c.next-name.ensures
+    c.capture_once_as.ensures
+    ∙ ap (λ n. carry_as n (naming SaveOnce (writing (ToRegister zeroth (Continuation n)) (framing (PushBoth (Back c.args.back) (Mark n)) (moves (Going c.args.body))))) p) c.next_name-name.ensures

@@ -5,31 +5,31 @@ use Rattle.held.proofs.Rows.{blank}
 use Rattle.held.proofs.Tables.{hit, miss}
 use Rattle.held.proofs.held_table.HeldTable.remove.Goals as goal
 
-pub returns-in-default : goal.returns-in-default
-returns-in-default c = sym (miss c.args.self.now c.args.name.0 c.in-default.ensures).1
+pub returns-in_default : goal.returns-in_default
+returns-in_default c = sym (miss c.args.self.now c.args.name.0 c.in_default.ensures).1
 
-pub offset-bounds-self-index : goal.offset-bounds-self-index
-offset-bounds-self-index c = let h = (hit c.args.self.now c.args.name.0 c.in-Some.index c.in-Some.ensures).within in omega arith
+pub offset_bounds-self-index : goal.offset_bounds-self-index
+offset_bounds-self-index c = let h = (hit c.args.self.now c.args.name.0 c.in-Some.index c.in-Some.ensures).within in omega arith
 
-pub slice-bounds-rotate-left-count : goal.slice-bounds-rotate-left-count
-slice-bounds-rotate-left-count c = let h = (hit c.args.self.now c.args.name.0 c.in-Some.index c.in-Some.ensures).within in omega arith
+pub slice_bounds-rotate_left-count : goal.slice_bounds-rotate_left-count
+slice_bounds-rotate_left-count c = let h = (hit c.args.self.now c.args.name.0 c.in-Some.index c.in-Some.ensures).within in omega arith
 
-pub slice-bounds-rotate-left-start : goal.slice-bounds-rotate-left-start
-slice-bounds-rotate-left-start c = let h = (hit c.args.self.now c.args.name.0 c.in-Some.index c.in-Some.ensures).within in search rules
+pub slice_bounds-rotate_left-start : goal.slice_bounds-rotate_left-start
+slice_bounds-rotate_left-start c = let h = (hit c.args.self.now c.args.name.0 c.in-Some.index c.in-Some.ensures).within in search rules
 
-pub rotate-left-requires : goal.rotate-left-requires
-rotate-left-requires c = let h = (hit c.args.self.now c.args.name.0 c.in-Some.index c.in-Some.ensures).within in simp (length-take, length-drop) (omega arith)
+pub rotate_left-requires : goal.rotate_left-requires
+rotate_left-requires c = let h = (hit c.args.self.now c.args.name.0 c.in-Some.index c.in-Some.ensures).within in simp (length-take, length-drop) (omega arith)
 
-pub invariant-of-self : goal.invariant-of-self
-invariant-of-self c =
+pub invariant_of-self : goal.invariant_of-self
+invariant_of-self c =
     let t = c.args.self.now in
     let i : ℕ = c.in-Some.index in
     let h = (hit t c.args.name.0 i c.in-Some.ensures).within in
-    (length_moved blank t.rows c.rotate-left.new.self i t.count h (omega arith) c.rotate-left.ensures.after ∙ t.sized, (omega arith, tt))
+    record { sized = length_moved blank t.rows c.rotate_left.new.self i t.count h (omega arith) c.rotate_left.ensures.after ∙ t.sized; few = omega arith }
 
 pub returns : goal.returns
 returns c =
     let t = c.args.self.now in
     let i : ℕ = c.in-Some.index in
     let h = hit t c.args.name.0 i c.in-Some.ensures in
-    taken_out blank t.rows c.rotate-left.new.self i t.count h.within (omega arith) c.rotate-left.ensures.after ∙ sym h.rest
+    taken_out blank t.rows c.rotate_left.new.self i t.count h.within (omega arith) c.rotate_left.ensures.after ∙ sym h.rest

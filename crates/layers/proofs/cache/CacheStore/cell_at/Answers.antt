@@ -6,7 +6,7 @@ use Rattle.layers.proofs.cache.CacheStore.cell_at.Goals as goal
 
 pub returns-then-index-len : goal.returns-then-index-len
 returns-then-index-len g c =
-    c.cell-at.ensures ∙ ap (λ o. ok_or o NoIndex) (sym (nth_left _ _ c.args.index (omega arith)))
+    c.cell_at.ensures ∙ ap (λ o. ok_or o NoIndex) (sym (nth_left _ _ c.args.index (omega arith)))
 
 pub returns-then-own-kept : goal.returns-then-own-kept
 returns-then-own-kept g c =

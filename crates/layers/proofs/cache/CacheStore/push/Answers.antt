@@ -10,11 +10,11 @@ returns-then-kept-room g c =
       memory = refl;
     }
 
-pub returns-in-ok-move-down : goal.returns-in-ok-move-down
-returns-in-ok-move-down g c =
+pub returns-in_ok-move_down : goal.returns-in_ok-move_down
+returns-in_ok-move_down g c =
     record {
-      call = sym (topped_moved c.args.self.now.table c.args.self.now.count (g.S.Store.meaning c.args.self.now.below) (omega arith) c.args.cell (g.S.Store.meaning c.move-down.new.self.below) c.move-down.new.self.table (omega arith) c.move-down.ensures.moved (omega arith));
-      memory = c.move-down.ensures.memory;
+      call = sym (topped_moved c.args.self.now.table c.args.self.now.count (g.S.Store.meaning c.args.self.now.below) (omega arith) c.args.cell (g.S.Store.meaning c.move_down.new.self.below) c.move_down.new.self.table (omega arith) c.move_down.ensures.moved (omega arith));
+      memory = c.move_down.ensures.memory;
     }
 
 pub returns-else-kept-eq-CAPACITY : goal.returns-else-kept-eq-CAPACITY

@@ -9,6 +9,6 @@ returns-then-start-sheet c = no_line c.args.self.now.sheet.now c.args.self.now.a
 pub returns : goal.returns
 returns c =
     let xs = c.args.self.now.sheet.now in
-    let next : Next xs c.piece-end-end.result c.if-end-sheet.self =
+    let next : Next xs c.piece_end-end.result c.if-end-sheet.self =
     elim c.if-end-sheet.branch [ then-end-sheet w ↦ inl (w.if-end-sheet.true, w.self-is) | else-end-sheet w ↦ inr (w.if-end-sheet.false, w.self-is) ] in
-    next-line xs c.args.self.now.at c.piece-end-end.result c.if-end-sheet.self c.piece-end-end.ensures.place c.if-start-sheet.false next
+    next-line xs c.args.self.now.at c.piece_end-end.result c.if-end-sheet.self c.piece_end-end.ensures.place c.if-start-sheet.false next

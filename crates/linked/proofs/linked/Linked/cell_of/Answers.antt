@@ -31,11 +31,11 @@ loop-above-init c =
 at_in : (s : Linked) (t n : ℕ) → ends (nodes_of s) (size s) t (suc n) ≡ true → t < size s
 at_in s t n e = (ends-from (nodes_of s) (size s) (suc n) t e).0
 
-pub overflow-cast-at : goal.overflow-cast-at
-overflow-cast-at c = let s = c.args.self.now in let a = at_in s c.loop-above.at c.loop-above.above c.loop-above.invariant.0 in let b = needed_small s.depth s.table.limit s.flat s.table.few in omega arith
+pub overflow_cast-at : goal.overflow_cast-at
+overflow_cast-at c = let s = c.args.self.now in let a = at_in s c.loop-above.at c.loop-above.above c.loop-above.invariant.0 in let b = needed_small s.depth s.table.limit s.flat s.table.few in omega arith
 
-pub overflow-cast-at-2 : goal.overflow-cast-at-2
-overflow-cast-at-2 c = let s = c.args.self.now in let a = at_in s c.loop-above.at c.loop-above.above c.loop-above.invariant.0 in let b = needed_small s.depth s.table.limit s.flat s.table.few in omega arith
+pub overflow_cast-at-2 : goal.overflow_cast-at-2
+overflow_cast-at-2 c = let s = c.args.self.now in let a = at_in s c.loop-above.at c.loop-above.above c.loop-above.invariant.0 in let b = needed_small s.depth s.table.limit s.flat s.table.few in omega arith
 
 pub index-requires : goal.index-requires
 index-requires c = let s = c.args.self.now in within_len s c.loop-above.at (at_in s c.loop-above.at c.loop-above.above c.loop-above.invariant.0)

@@ -11,7 +11,7 @@ use Rattle.linked.specs.Meant.{read_row}
 use Rattle.linked.proofs.Facts.{new_facts, needed_small}
 use Rattle.linked.proofs.Stores.{Owed, owed}
 use Rattle.linked.proofs.linked.Linked.new.Goals as goal
-use Rattle.linked.proofs.linked.Linked.new.Goals.{else-are-in-range-via-then-are-in-range+else-size-len, else-are-in-range-via-else-are-in-range}
+use Rattle.linked.proofs.linked.Linked.new.Goals.{else-are_in_range-via-then-are_in_range+else-size-len, else-are_in_range-via-else-are_in_range}
 
 -- a store with the limits that were asked for
 module _ (memory nodes : List Node) (t : Table) (depth held size : ℕ) (range : in_range depth held ≡ true) (need-is : size ≡ cells_needed depth held) (room : size ≤ length memory)
@@ -55,9 +55,9 @@ module _ (memory : List Node) (t : Table) (depth held : ℕ) (none : listed t �
     none_memory : (n : ℕ) → (cells_needed 0 t.limit, drop (cells_needed 0 t.limit) memory) ≡ split_at b n memory
     none_memory n = split_as memory memory b n _ (none_needed ∙ sym (cond-false b n 0 not-accepted)) refl
 
-pub link-free-requires : goal.link-free-requires
-link-free-requires c =
-    let small = range_small c.args.depth c.args.held (sym c.are-in-range.ensures ∙ c.if-are-in-range.true) in
+pub link_free-requires : goal.link_free-requires
+link_free-requires c =
+    let small = range_small c.args.depth c.args.held (sym c.are_in_range.ensures ∙ c.if-are_in_range.true) in
     let few = needed_small c.args.depth c.args.held small.flat small.few in
     let v = c.args.memory.ok.0 in
     (omega arith, omega arith)
@@ -66,22 +66,22 @@ link-free-requires c =
 room_of : (v n size : ℕ) → size ≤ n → n ≡ v → (m : ℕ) → v ≡ m → size ≤ m
 room_of v n size l e m d = omega arith
 
-pub invariant-of-result : goal.invariant-of-result
-invariant-of-result c =
-    new_owed (vec_items c.args.memory) (vec_items c.link-free.new.nodes) c.new.result c.args.depth c.args.held c.cells-needed-size.result (sym c.are-in-range.ensures ∙ c.if-are-in-range.true) c.cells-needed-size.ensures
-    (room_of _ _ _ c.if-size-len.true c.len.ensures _ c.args.memory.ok.0) c.link-free.ensures.linked c.link-free.ensures.beyond c.link-free.ensures.len c.new.ensures.listed c.new.ensures.limit
+pub invariant_of-result : goal.invariant_of-result
+invariant_of-result c =
+    new_owed (vec_items c.args.memory) (vec_items c.link_free.new.nodes) c.new.result c.args.depth c.args.held c.cells_needed-size.result (sym c.are_in_range.ensures ∙ c.if-are_in_range.true) c.cells_needed-size.ensures
+    (room_of _ _ _ c.if-size-len.true c.len.ensures _ c.args.memory.ok.0) c.link_free.ensures.linked c.link_free.ensures.beyond c.link_free.ensures.len c.new.ensures.listed c.new.ensures.limit
 
 pub returns-then-size-len : goal.returns-then-size-len
 returns-then-size-len c =
     record {
-      meaning = new_means (vec_items c.args.memory) (vec_items c.link-free.new.nodes) c.new.result c.args.depth c.args.held c.cells-needed-size.result (sym c.are-in-range.ensures ∙ c.if-are-in-range.true) c.cells-needed-size.ensures
-          (room_of _ _ _ c.if-size-len.true c.len.ensures _ c.args.memory.ok.0) c.link-free.ensures.linked c.link-free.ensures.beyond c.link-free.ensures.len c.new.ensures.listed c.new.ensures.limit;
-      memory = new_memory (vec_items c.args.memory) (vec_items c.link-free.new.nodes) c.new.result c.args.depth c.args.held c.cells-needed-size.result (sym c.are-in-range.ensures ∙ c.if-are-in-range.true) c.cells-needed-size.ensures
-          (room_of _ _ _ c.if-size-len.true c.len.ensures _ c.args.memory.ok.0) c.link-free.ensures.linked c.link-free.ensures.beyond c.link-free.ensures.len c.new.ensures.listed c.new.ensures.limit;
+      meaning = new_means (vec_items c.args.memory) (vec_items c.link_free.new.nodes) c.new.result c.args.depth c.args.held c.cells_needed-size.result (sym c.are_in_range.ensures ∙ c.if-are_in_range.true) c.cells_needed-size.ensures
+          (room_of _ _ _ c.if-size-len.true c.len.ensures _ c.args.memory.ok.0) c.link_free.ensures.linked c.link_free.ensures.beyond c.link_free.ensures.len c.new.ensures.listed c.new.ensures.limit;
+      memory = new_memory (vec_items c.args.memory) (vec_items c.link_free.new.nodes) c.new.result c.args.depth c.args.held c.cells_needed-size.result (sym c.are_in_range.ensures ∙ c.if-are_in_range.true) c.cells_needed-size.ensures
+          (room_of _ _ _ c.if-size-len.true c.len.ensures _ c.args.memory.ok.0) c.link_free.ensures.linked c.link_free.ensures.beyond c.link_free.ensures.len c.new.ensures.listed c.new.ensures.limit;
     }
 
-pub invariant-of-result-2 : goal.invariant-of-result-2
-invariant-of-result-2 c = none_owed (vec_items c.args.memory) c.new-2.result c.args.depth c.args.held c.new-2.ensures.listed c.new-2.ensures.limit
+pub invariant_of-result-2 : goal.invariant_of-result-2
+invariant_of-result-2 c = none_owed (vec_items c.args.memory) c.new-2.result c.args.depth c.args.held c.new-2.ensures.listed c.new-2.ensures.limit
 
 pub returns : goal.returns
 returns c =
@@ -89,9 +89,9 @@ returns c =
     let depth : ℕ = c.args.depth in
     let held : ℕ = c.args.held in
     let refused : accepted (length ns) (cells_needed depth held) depth held ≡ false =
-    elim c.else-are-in-range.branch [
-      | else-are-in-range-via-then-are-in-range+else-size-len w ↦ refused_memory (length ns) (cells_needed depth held) depth held (let a = w.if-size-len.false in let b = w.len.ensures in let d = c.args.memory.ok.0 in let e = c.cells-needed-size.ensures in omega arith)
-      | else-are-in-range-via-else-are-in-range w ↦ refused_range (length ns) (cells_needed depth held) depth held (sym c.are-in-range.ensures ∙ w.if-are-in-range.false)
+    elim c.else-are_in_range.branch [
+      | else-are_in_range-via-then-are_in_range+else-size-len w ↦ refused_memory (length ns) (cells_needed depth held) depth held (let a = w.if-size-len.false in let b = w.len.ensures in let d = c.args.memory.ok.0 in let e = c.cells_needed-size.ensures in omega arith)
+      | else-are_in_range-via-else-are_in_range w ↦ refused_range (length ns) (cells_needed depth held) depth held (sym c.are_in_range.ensures ∙ w.if-are_in_range.false)
     ] in
     record {
       meaning = none_means ns c.new-2.result depth held c.new-2.ensures.listed c.new-2.ensures.limit _ refused;

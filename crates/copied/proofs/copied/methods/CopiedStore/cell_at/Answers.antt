@@ -13,4 +13,4 @@ pub returns : goal.returns
 returns c =
     let s = c.args.self.now in
     let z : 0 + c.args.index ≡ c.args.index = omega arith in
-    ap Ok (c.read-cell.ensures ∙ ap (λ ws. cell_at ws c.args.index) c.as-slice.ensures.value ∙ ap (cell_at (words_of s)) (sym z)) ∙ sym (ap (λ o. ok_or o NoIndex) (nth_cells (words_of s) 0 s.len c.args.index c.if-index-self.false))
+    ap Ok (c.read_cell.ensures ∙ ap (λ ws. cell_at ws c.args.index) c.as_slice.ensures.value ∙ ap (cell_at (words_of s)) (sym z)) ∙ sym (ap (λ o. ok_or o NoIndex) (nth_cells (words_of s) 0 s.len c.args.index c.if-index-self.false))

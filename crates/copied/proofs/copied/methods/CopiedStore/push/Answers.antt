@@ -16,21 +16,21 @@ returns-then-self c =
     let n = length-map-range_with_len (cell_at (words_of s)) 0 s.len in
     record { memory = refl; call = sym (pushed_full (meant s) c.args.cell (omega arith)) }
 
-pub invariant-of-self : goal.invariant-of-self
-invariant-of-self c =
+pub invariant_of-self : goal.invariant_of-self
+invariant_of-self c =
     let s = c.args.self.now in
-    let us = c.write-cell.new.memory in
+    let us = c.write_cell.new.memory in
     let e : length us ≡ vec_len s.memory = search rules in
-    let items = with_items_is s.memory us e ∙ c.write-cell.ensures ∙ ap (λ xs. paste xs (width * s.len) c.args.cell.words width) c.as-mut-slice.ensures.value in
+    let items = with_items_is s.memory us e ∙ c.write_cell.ensures ∙ ap (λ xs. paste xs (width * s.len) c.args.cell.words width) c.as_mut_slice.ensures.value in
     let whole : length c.args.cell.words ≡ width = search rules in
     push_owed s c.if-self.false c.args.cell whole _ items
 
 pub returns : goal.returns
 returns c =
     let s = c.args.self.now in
-    let us = c.write-cell.new.memory in
+    let us = c.write_cell.new.memory in
     let e : length us ≡ vec_len s.memory = search rules in
-    let items = with_items_is s.memory us e ∙ c.write-cell.ensures ∙ ap (λ xs. paste xs (width * s.len) c.args.cell.words width) c.as-mut-slice.ensures.value in
+    let items = with_items_is s.memory us e ∙ c.write_cell.ensures ∙ ap (λ xs. paste xs (width * s.len) c.args.cell.words width) c.as_mut_slice.ensures.value in
     let whole : length c.args.cell.words ≡ width = search rules in
     record {
       memory = fixed_same s _ _ refl (push_beyond s c.if-self.false c.args.cell whole _ items);

@@ -9,8 +9,8 @@ use Rattle.bottom.proofs.Answered.{cell_of}
 use Rattle.copied.proofs.Calls.{nth_cells, nth_beyond, row-fit, part_in}
 use Rattle.copied.proofs.copied.methods.CopiedStore.saved_cell.Goals as goal
 
-pub returns-in-default : goal.returns-in-default
-returns-in-default c = let s = c.args.self.now in cell_of (read_row (words_of s) s.depth) (cells (words_of s) 0 s.len) (listed s.table) s.depth s.table.limit c.args.name.0 c.args.index None (sym c.in-default.ensures)
+pub returns-in_default : goal.returns-in_default
+returns-in_default c = let s = c.args.self.now in cell_of (read_row (words_of s) s.depth) (cells (words_of s) 0 s.len) (listed s.table) s.depth s.table.limit c.args.name.0 c.args.index None (sym c.in_default.ensures)
 
 pub returns-then-index-row : goal.returns-then-index-row
 returns-then-index-row c =
@@ -19,8 +19,8 @@ returns-then-index-row c =
     sym (ap (λ o. ok_or o NoIndex) (nth_beyond (words_of s) (part_start s.depth r.at) r.len c.args.index c.if-index-row.true))
     ∙ cell_of (read_row (words_of s) s.depth) (cells (words_of s) 0 s.len) (listed s.table) s.depth s.table.limit c.args.name.0 c.args.index (Some r) (sym c.in-Some.ensures)
 
-pub read-cell-requires : goal.read-cell-requires
-read-cell-requires c =
+pub read_cell-requires : goal.read_cell-requires
+read_cell-requires c =
     let s = c.args.self.now in
     let r = c.in-Some.row in
     let f = row-fit s c.args.name.0 r (sym c.in-Some.ensures) in
@@ -33,6 +33,6 @@ pub returns : goal.returns
 returns c =
     let s = c.args.self.now in
     let r = c.in-Some.row in
-    ap Ok (c.read-cell.ensures ∙ ap (λ ws. cell_at ws (c.cells-needed-start.result + c.args.index)) c.as-slice.ensures.value ∙ ap (λ k. cell_at (words_of s) (k + c.args.index)) c.cells-needed-start.ensures)
+    ap Ok (c.read_cell.ensures ∙ ap (λ ws. cell_at ws (c.cells_needed-start.result + c.args.index)) c.as_slice.ensures.value ∙ ap (λ k. cell_at (words_of s) (k + c.args.index)) c.cells_needed-start.ensures)
     ∙ sym (ap (λ o. ok_or o NoIndex) (nth_cells (words_of s) (part_start s.depth r.at) r.len c.args.index c.if-index-row.false))
     ∙ cell_of (read_row (words_of s) s.depth) (cells (words_of s) 0 s.len) (listed s.table) s.depth s.table.limit c.args.name.0 c.args.index (Some r) (sym c.in-Some.ensures)

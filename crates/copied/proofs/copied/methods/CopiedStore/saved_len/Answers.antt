@@ -7,8 +7,8 @@ use Rattle.std.proofs.lemmas.List.FromFn.{length-map-range_with_len}
 use Rattle.bottom.proofs.Answered.{length_of}
 use Rattle.copied.proofs.copied.methods.CopiedStore.saved_len.Goals as goal
 
-pub returns-in-default : goal.returns-in-default
-returns-in-default c = let s = c.args.self.now in length_of (read_row (words_of s) s.depth) (cells (words_of s) 0 s.len) (listed s.table) s.depth s.table.limit c.args.name.0 None (sym c.in-default.ensures)
+pub returns-in_default : goal.returns-in_default
+returns-in_default c = let s = c.args.self.now in length_of (read_row (words_of s) s.depth) (cells (words_of s) 0 s.len) (listed s.table) s.depth s.table.limit c.args.name.0 None (sym c.in_default.ensures)
 
 pub returns : goal.returns
 returns c =

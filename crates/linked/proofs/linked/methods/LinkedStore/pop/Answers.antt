@@ -1,4 +1,4 @@
-use Rattle.std.proofs.Common.{◌-◌, ◌<◌, vec_items, refl, arith}
+use Rattle.std.proofs.Common.{◌<◌, vec_items, refl, arith}
 use Rattle.linked.proofs.Stores.{nodes_of}
 use Rattle.linked.proofs.Calls.{fixed_same, pop_somehow, pop_small, pop_owed, pop_means, pop_beyond}
 use Rattle.linked.proofs.Moving.{read_node}
@@ -8,18 +8,18 @@ use Rattle.linked.proofs.linked.methods.LinkedStore.pop.Goals as goal
 pub index-node-requires : goal.index-node-requires
 index-node-requires c = let s = c.args.self.now in let n = c.if-self-eq0.false in within_len s s.top (top_in s (omega arith))
 
-pub drop-top-self-requires : goal.drop-top-self-requires
-drop-top-self-requires c =
+pub drop_top-self-requires : goal.drop_top-self-requires
+drop_top-self-requires c =
     let s = c.args.self.now in
     let some : 0 < s.len = let n = c.if-self-eq0.false in omega arith in
     record { some = some; held = pop_somehow s some; small = pop_small s some }
 
-pub invariant-of-self : goal.invariant-of-self
-invariant-of-self c =
+pub invariant_of-self : goal.invariant_of-self
+invariant_of-self c =
     let s = c.args.self.now in
     let some : 0 < s.len = let n = c.if-self-eq0.false in omega arith in
     let r = c.index-node.result.now in
-    pop_owed s some (vec_items c.drop-top-self.new.nodes) c.drop-top-self.result r (read_node (nodes_of s) s.top r (in_nodes s s.top (top_in s some)) c.index-node.ensures) c.drop-top-self.ensures
+    pop_owed s some (vec_items c.drop_top-self.new.nodes) c.drop_top-self.result r (read_node (nodes_of s) s.top r (in_nodes s s.top (top_in s some)) c.index-node.ensures) c.drop_top-self.ensures
 
 pub returns : goal.returns
 returns c =
@@ -28,6 +28,6 @@ returns c =
     let r = c.index-node.result.now in
     let is = read_node (nodes_of s) s.top r (in_nodes s s.top (top_in s some)) c.index-node.ensures in
     record {
-      memory = fixed_same s _ _ refl (pop_beyond s some (vec_items c.drop-top-self.new.nodes) c.drop-top-self.result r is c.drop-top-self.ensures);
-      call = pop_means s some (vec_items c.drop-top-self.new.nodes) c.drop-top-self.result r is c.drop-top-self.ensures;
+      memory = fixed_same s _ _ refl (pop_beyond s some (vec_items c.drop_top-self.new.nodes) c.drop_top-self.result r is c.drop_top-self.ensures);
+      call = pop_means s some (vec_items c.drop_top-self.new.nodes) c.drop_top-self.result r is c.drop_top-self.ensures;
     }

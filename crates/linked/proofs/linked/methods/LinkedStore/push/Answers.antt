@@ -20,11 +20,11 @@ returns-then-self c =
 pub index-requires : goal.index-requires
 index-requires c = let s = c.args.self.now in within_len s s.free (free_in s c.if-self.false)
 
-pub index-mut-requires : goal.index-mut-requires
-index-mut-requires c = let s = c.args.self.now in within_len s s.free (free_in s c.if-self.false)
+pub index_mut-requires : goal.index_mut-requires
+index_mut-requires c = let s = c.args.self.now in within_len s s.free (free_in s c.if-self.false)
 
-pub invariant-of-self : goal.invariant-of-self
-invariant-of-self c =
+pub invariant_of-self : goal.invariant_of-self
+invariant_of-self c =
     let s = c.args.self.now in
     let w = free_in s c.if-self.false in
     let r = c.index.result.now in

@@ -1,4 +1,4 @@
-use Rattle.std.proofs.Common.{◌-◌, Some, None, sym, ◌∙◌}
+use Rattle.std.proofs.Common.{Some, None, sym, ◌∙◌}
 use Rattle.bottom.specs.Tables.{listed}
 use Rattle.linked.specs.Chains.{cells}
 use Rattle.linked.specs.Meant.{size, read_row}
@@ -8,13 +8,13 @@ use Rattle.linked.proofs.Calls.{row-fit}
 use Rattle.linked.proofs.Changes.{ends_to}
 use Rattle.linked.proofs.linked.methods.LinkedStore.saved_cell.Goals as goal
 
-pub returns-in-default : goal.returns-in-default
-returns-in-default c = let s = c.args.self.now in cell_of (read_row (nodes_of s)) (cells (nodes_of s) s.top s.len) (listed s.table) s.depth s.table.limit c.args.name.0 c.args.index None (sym c.in-default.ensures)
+pub returns-in_default : goal.returns-in_default
+returns-in_default c = let s = c.args.self.now in cell_of (read_row (nodes_of s)) (cells (nodes_of s) s.top s.len) (listed s.table) s.depth s.table.limit c.args.name.0 c.args.index None (sym c.in_default.ensures)
 
-pub cell-of-requires : goal.cell-of-requires
-cell-of-requires c = let s = c.args.self.now in let r = c.in-Some.row in ends_to (nodes_of s) (size s) r.len r.at (row-fit s c.args.name.0 r (sym c.in-Some.ensures)).1
+pub cell_of-requires : goal.cell_of-requires
+cell_of-requires c = let s = c.args.self.now in let r = c.in-Some.row in ends_to (nodes_of s) (size s) r.len r.at (row-fit s c.args.name.0 r (sym c.in-Some.ensures)).1
 
 pub returns : goal.returns
 returns c =
     let s = c.args.self.now in
-    c.cell-of.ensures ∙ cell_of (read_row (nodes_of s)) (cells (nodes_of s) s.top s.len) (listed s.table) s.depth s.table.limit c.args.name.0 c.args.index (Some c.in-Some.row) (sym c.in-Some.ensures)
+    c.cell_of.ensures ∙ cell_of (read_row (nodes_of s)) (cells (nodes_of s) s.top s.len) (listed s.table) s.depth s.table.limit c.args.name.0 c.args.index (Some c.in-Some.row) (sym c.in-Some.ensures)

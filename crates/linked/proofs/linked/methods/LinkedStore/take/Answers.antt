@@ -1,4 +1,4 @@
-use Rattle.std.proofs.Common.{◌-◌, Err, vec_items, sym, refl, ap, ◌∙◌}
+use Rattle.std.proofs.Common.{Err, vec_items, sym, refl, ap, ◌∙◌}
 use Rattle.store.specs.declared.refusal.Refusal.TheVariants.{NotHeld}
 use Rattle.bottom.specs.Tables.{listed}
 use Rattle.linked.specs.Meant.{read_row}
@@ -8,28 +8,28 @@ use Rattle.bottom.proofs.Rows.{without_none}
 use Rattle.linked.proofs.Calls.{owed_same, meant-same, fixed_same, take_somehow, take_owed, take_means, take_beyond}
 use Rattle.linked.proofs.linked.methods.LinkedStore.take.Goals as goal
 
-pub invariant-of-self : goal.invariant-of-self
-invariant-of-self c = let s = c.args.self.now in owed_same s c.remove.new.self (c.remove.ensures.rows ∙ without_none _ _ (sym c.in-default.ensures.row)) c.remove.ensures.limit
+pub invariant_of-self : goal.invariant_of-self
+invariant_of-self c = let s = c.args.self.now in owed_same s c.remove.new.self (c.remove.ensures.rows ∙ without_none _ _ (sym c.in_default.ensures.row)) c.remove.ensures.limit
 
-pub returns-in-default : goal.returns-in-default
-returns-in-default c =
+pub returns-in_default : goal.returns-in_default
+returns-in_default c =
     let s = c.args.self.now in
-    let none = sym c.in-default.ensures.row in
+    let none = sym c.in_default.ensures.row in
     record {
       memory = fixed_same s (nodes_of s) _ c.remove.ensures.limit refl;
       call = ap (λ m. (Err NotHeld, m)) (meant-same s _ _ (c.remove.ensures.rows ∙ without_none _ _ none) c.remove.ensures.limit) ∙ taken_none (read_row (nodes_of s)) _ (listed s.table) s.depth s.table.limit c.args.name.0 none;
     }
 
-pub let-go-self-requires : goal.let-go-self-requires
-let-go-self-requires c = let s = c.args.self.now in take_somehow s c.args.name.0 c.in-Some.row (sym c.in-Some.ensures.row) c.remove.new.self c.remove.ensures.rows c.remove.ensures.limit
+pub let_go-self-requires : goal.let_go-self-requires
+let_go-self-requires c = let s = c.args.self.now in take_somehow s c.args.name.0 c.in-Some.row (sym c.in-Some.ensures.row) c.remove.new.self c.remove.ensures.rows c.remove.ensures.limit
 
-pub invariant-of-self-2 : goal.invariant-of-self-2
-invariant-of-self-2 c = let s = c.args.self.now in take_owed s c.args.name.0 c.in-Some.row (sym c.in-Some.ensures.row) c.remove.new.self c.remove.ensures.rows c.remove.ensures.limit (vec_items c.let-go-self.new.nodes) c.let-go-self.result c.let-go-self.ensures
+pub invariant_of-self-2 : goal.invariant_of-self-2
+invariant_of-self-2 c = let s = c.args.self.now in take_owed s c.args.name.0 c.in-Some.row (sym c.in-Some.ensures.row) c.remove.new.self c.remove.ensures.rows c.remove.ensures.limit (vec_items c.let_go-self.new.nodes) c.let_go-self.result c.let_go-self.ensures
 
 pub returns : goal.returns
 returns c =
     let s = c.args.self.now in
     record {
-      memory = fixed_same s _ _ c.remove.ensures.limit (take_beyond s c.args.name.0 c.in-Some.row (sym c.in-Some.ensures.row) c.remove.new.self c.remove.ensures.rows c.remove.ensures.limit (vec_items c.let-go-self.new.nodes) c.let-go-self.result c.let-go-self.ensures);
-      call = take_means s c.args.name.0 c.in-Some.row (sym c.in-Some.ensures.row) c.remove.new.self c.remove.ensures.rows c.remove.ensures.limit (vec_items c.let-go-self.new.nodes) c.let-go-self.result c.let-go-self.ensures;
+      memory = fixed_same s _ _ c.remove.ensures.limit (take_beyond s c.args.name.0 c.in-Some.row (sym c.in-Some.ensures.row) c.remove.new.self c.remove.ensures.rows c.remove.ensures.limit (vec_items c.let_go-self.new.nodes) c.let_go-self.result c.let_go-self.ensures);
+      call = take_means s c.args.name.0 c.in-Some.row (sym c.in-Some.ensures.row) c.remove.new.self c.remove.ensures.rows c.remove.ensures.limit (vec_items c.let_go-self.new.nodes) c.let_go-self.result c.let_go-self.ensures;
     }
