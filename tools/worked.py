@@ -66,11 +66,11 @@ def main():
         output, end, steps, entered, left = figures(sheet, limits)
         rows += f"    -- {title}\n"
         rows += f'    row (sheet "{sheet}") (limits {" ".join(map(str, limits))})\n'
-        rows += f'      (figures (sheet "{output}") {end} {steps} {entered} {left}) ∷\n'
+        rows += f'    (figures (sheet "{output}") {end} {steps} {entered} {left}) ∷\n'
         print(title, (output, end, steps, entered, left))
     text = f"""-- The worked sheets. The figures are those of an independent evaluator; written by tools/worked.py, not by hand.
-use mathlib.Core.List.{{List, [], _∷_}}
-use Rattle·worked·specs.Rows.{{Row, row, sheet, limits, figures}}
+use Rattle.std.specs.Prelude.{{List, [], ◌∷◌}}
+use Rattle.worked.specs.Rows.{{Row, row, sheet, limits, figures}}
 
 -- each sheet in one line, with the limits of its run and what the run comes to
 abbrev pub table : List Row

@@ -1,5 +1,5 @@
 -- How often a number stands in a list, and lists that begin with another.
-use Rattle.std.proofs.Common.{◌≡◌, ℕ, zero, suc, ◌+◌, ◌<◌, ◌≤◌, Bool, true, false, cond, eqb, List, [], ◌∷◌, ◌++◌, map, reverse, length, Some, None, sym, refl, ap, arith}
+use Rattle.std.proofs.Common.{◌≡◌, ℕ, zero, suc, ◌+◌, ◌<◌, ◌≤◌, Bool, true, false, cond, eqb, List, [], ◌∷◌, ◌++◌, map, reverse, length, Some, None, refl, ap, arith}
 use mathlib.Core.List.{reverse_aux}
 use Rattle.std.specs.List.{slice_get}
 use Rattle.std.proofs.lemmas.Bool.{cond_both, eqb-true}
@@ -33,12 +33,12 @@ numbered_less m xs ys h a k =
     let i = h k in let j = (a k).0 in
     (omega arith, λ l. let z : count k ys ≡ 0 = (a k).1 l in omega arith)
 
-count_reverseAux : (k : ℕ) (xs ys : List ℕ) → count k (reverse_aux xs ys) ≡ count k xs + count k ys
-count_reverseAux k [] ys = omega arith
-count_reverseAux k (x ∷ xs) ys = let i = count_reverseAux k xs (x ∷ ys) in omega arith
+count-reverse_aux : (k : ℕ) (xs ys : List ℕ) → count k (reverse_aux xs ys) ≡ count k xs + count k ys
+count-reverse_aux k [] ys = omega arith
+count-reverse_aux k (x ∷ xs) ys = let i = count-reverse_aux k xs (x ∷ ys) in omega arith
 
 pub count-reverse : (k : ℕ) (xs : List ℕ) → count k (reverse xs) ≡ count k xs
-count-reverse k xs = let i = count_reverseAux k xs [] in omega arith
+count-reverse k xs = let i = count-reverse_aux k xs [] in omega arith
 
 pub count_push : (k : ℕ) (xs : List ℕ) (x : ℕ) → count k (xs ++ (x ∷ [])) ≡ count k xs + one_if x k
 count_push k [] x = omega arith

@@ -1,5 +1,5 @@
 -- The laws of counts, names and winds, over every course from the start.
-use Rattle.std.proofs.Common.{◌≡◌, ℕ, zero, suc, ◌+◌, ◌<◌, ◌≤◌, Bool, true, false, cond, eqb, ltb, List, [], ◌∷◌, reverse, length, ℤ, Some, None, Ok, Err, Option, sym, refl, ap, ◌∙◌, subst, inl, inr, arith}
+use Rattle.std.proofs.Common.{◌≡◌, ℕ, suc, ◌+◌, ◌<◌, ◌≤◌, Bool, true, false, cond, eqb, ltb, List, [], ◌∷◌, reverse, length, ℤ, Some, None, Ok, Err, Option, sym, refl, ap, ◌∙◌, subst, inl, inr, arith}
 use lib.ListN.{length-reverse}
 use Rattle.std.specs.Option.{ok_or}
 use Rattle.std.proofs.lemmas.Bool.{eqb-true, eq-eqb, ltb-true}
@@ -24,17 +24,17 @@ use Rattle.machine.specs.State.{State, Capture, Limits, capture_name, wind_numbe
 use Rattle.machine.specs.Checks.{Checked, ◌>>=◌, held_under, top_wind}
 use Rattle.machine.specs.Acts.{Plan, does}
 use Rattle.machine.specs.Returning.{wind_at, again}
-use Rattle.machine.specs.Throwing.{shared, unwind, throw}
+use Rattle.machine.specs.Throwing.{shared, unwind}
 use Rattle.machine.specs.Plan.{plan, plan_in}
 use Rattle.machine.specs.Course.{Course, course}
-use Rattle.laws.specs.Counts.{Conserved, CountsConserved, CountsWithinSteps, AllNamesMade, InForce, Balanced, WindsBalanced}
-use Rattle.laws.specs.Reached.{Within, LimitsKept, SomeWind, PlanEnd, Unreached, NeverReached, AtRest, NoThrow, bodies, WindsStand, RightWinds}
+use Rattle.laws.specs.Counts.{CountsConserved, CountsWithinSteps, AllNamesMade, InForce, WindsBalanced}
+use Rattle.laws.specs.Reached.{LimitsKept, SomeWind, PlanEnd, Unreached, NeverReached, NoThrow, bodies, WindsStand, RightWinds}
 use Rattle.laws.proofs.Counting.{one_if, count, length-map, nth_below}
 use Rattle.laws.proofs.Named.{find-all, find_none}
 use Rattle.laws.proofs.Planned.{Acts, Planned, rested, thrown, Rested, writes, pushes, pushes_both, pops_one, passes_mark, captures-many, captures-once, forgets, opens, closes, tosses, reenters, Thrown, throws_out, throws_in, lands, planned}
 use Rattle.laws.proofs.Sound.{Sound, Fits, Rests}
 use Rattle.laws.proofs.Keeps.{winds-saved, at_rest}
-use Rattle.laws.proofs.Steps.{Reached, Traced, Good, acts_of, good_course, start_reached}
+use Rattle.laws.proofs.Steps.{Reached, Good, acts_of, good_course, start_reached}
 
 -- what holds of the states that can be reached holds of every course from the start
 from_start : (l : Limits) (code : List Instruction) (numbers : List ℤ) (n : ℕ)

@@ -3,7 +3,6 @@ use Rattle.std.proofs.Common.{List, [], ◌∷◌}
 use Rattle.std.specs.List.{AllByRecursion as All}
 use Rattle.cell.specs.declared.frame.Frame.{Frame}
 use Rattle.cell.specs.declared.frame.Frame.TheVariants.{Saved, Back, Mark, In, Out, Hold, Toss, Enter}
-use Rattle.machine.specs.Apply.{below}
 
 -- the frames that the walk passes by
 abbrev pub Passed : Frame → Type 0

@@ -1,5 +1,5 @@
 -- Each act that is planned in a sound state meets what it has to, so each step leads from a sound state to a sound one.
-use Rattle.std.proofs.Common.{◌≡◌, ℕ, ◌≤◌, Bool, true, false, cond, List, [], ◌∷◌, ◌++◌, reverse, length, Some, None, Ok, Err, Option, sym, refl, ap, ◌∙◌, subst, arith}
+use Rattle.std.proofs.Common.{◌≡◌, ℕ, ◌≤◌, List, [], ◌∷◌, ◌++◌, reverse, length, Some, None, Option, sym, ap, ◌∙◌, subst, arith}
 use mathlib.Core.List.{reverse-cons, reverse-reverse}
 use lib.ListN.{length-reverse}
 use Rattle.std.specs.List.{slice_get, AllByRecursion as All}
@@ -9,30 +9,25 @@ use Rattle.cell.specs.declared.value.Value.{Value}
 use Rattle.cell.specs.declared.frame.Frame.{Frame}
 use Rattle.cell.specs.declared.frame.Frame.TheVariants.{Saved, Back, Mark, In, Out, Hold, Toss, Enter}
 use Rattle.cell.specs.declared.wind.Wind.{Wind}
-use Rattle.code.specs.declared.instruction.Instruction.{Instruction}
 use Rattle.machine.specs.declared.act.Act.{Act}
-use Rattle.machine.specs.declared.next.Next.TheVariants.{Halt, Go}
 use Rattle.machine.specs.declared.frame_move.FrameMove.TheVariants.{Pop, Restore}
 use Rattle.machine.specs.declared.wind_move.WindMove.TheVariants.{Open}
-use Rattle.machine.specs.declared.name_move.NameMove.{NameMove}
-use Rattle.machine.specs.declared.name_move.NameMove.TheVariants.{Keep as KeepNames, SaveMany, SaveOnce, Use}
+use Rattle.machine.specs.declared.name_move.NameMove.TheVariants.{Keep as KeepNames, Use}
 use Rattle.machine.specs.declared.mode.Mode.{Mode}
 use Rattle.machine.specs.declared.mode.Mode.TheVariants.{Going, Returning, Throwing}
 use Rattle.machine.specs.State.{State, Capture, capture_name, wind_number, wind_numbers}
-use Rattle.machine.specs.Names.{frame_names, mode_names}
-use Rattle.machine.specs.Acts.{Plan}
+use Rattle.machine.specs.Names.{mode_names}
 use Rattle.machine.specs.Going.{reg, zeroth}
 use Rattle.machine.specs.Returning.{spends, wind_at, again}
 use Rattle.machine.specs.Throwing.{shared, common}
-use Rattle.machine.specs.Plan.{plan}
 use Rattle.machine.specs.Apply.{below, replaced, saved_frames, frames_after, winds_after}
-use Rattle.laws.specs.Counts.{Made, FrameMade}
+use Rattle.laws.specs.Counts.{Made}
 use Rattle.laws.specs.Reached.{AtRest}
-use Rattle.laws.proofs.Counting.{Numbered, numbered_less, count, count-reverse, Prefix, prefix_count, prefix_next, prefix_common, same-common, map-reverse, length-map, nth_map_some, nth_map_none}
+use Rattle.laws.proofs.Counting.{Numbered, numbered_less, count-reverse, Prefix, prefix_count, prefix_next, prefix_common, same-common, map-reverse, length-map, nth_map_some, nth_map_none}
 use Rattle.laws.proofs.Named.{find-all}
-use Rattle.laws.proofs.Frames.{Passed, Walk, walk_push, walk_pop}
+use Rattle.laws.proofs.Frames.{Passed, walk_push, walk_pop}
 use Rattle.laws.proofs.Planned.{Planned, rested, thrown, Rested, writes, pushes, pushes_both, pops_one, passes_mark, captures-many, captures-once, forgets, opens, closes, tosses, reenters, Thrown, throws_out, throws_in, lands, Holds}
-use Rattle.laws.proofs.Sound.{Entering, NoneLeft, Fits, Rests, CaptureSound, Sound, Owned, Entered, EntersMade, MadeBy, FrameMadeBy, Legal, still, still_frames}
+use Rattle.laws.proofs.Sound.{Entering, NoneLeft, Fits, Rests, CaptureSound, Sound, Owned, Entered, EntersMade, Legal, still}
 
 passed_enters : (s : State) (f : Frame) → Passed f → EntersMade s f
 passed_enters s (Saved v) p = tt

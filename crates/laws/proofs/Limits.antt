@@ -1,12 +1,11 @@
 -- A plan does not know the limits, so a step can differ under two limits only by a limit's end.
-use Rattle.std.proofs.Common.{◌≡◌, ℕ, zero, suc, ◌+◌, ◌≤◌, Bool, true, false, cond, leb, ◌⊎◌, List, [], ◌∷◌, length, ℤ, Some, None, Ok, Err, Option, sym, refl, ap, subst, inl, inr, arith}
-use lib.Signed.{le_z}
+use Rattle.std.proofs.Common.{◌≡◌, ℕ, zero, suc, ◌+◌, Bool, true, false, cond, leb, ◌⊎◌, List, length, Some, None, Ok, Err, Option, sym, refl, ap, subst, inl, inr, arith}
 use Rattle.std.proofs.lemmas.Bool.{leb-true, ltb-true, le-leb, lt-ltb}
 use Rattle.code.specs.declared.instruction.Instruction.{Instruction}
 use Rattle.machine.specs.declared.act.Act.{Act}
 use Rattle.machine.specs.declared.next.Next.TheVariants.{Halt, Go}
 use Rattle.machine.specs.declared.end.End.{End}
-use Rattle.machine.specs.declared.end.End.TheVariants.{UnfitStores, StepLimit}
+use Rattle.machine.specs.declared.end.End.TheVariants.{StepLimit}
 use Rattle.machine.specs.declared.wind_move.WindMove.{WindMove}
 use Rattle.machine.specs.declared.wind_move.WindMove.TheVariants.{Stay, Open, Reenter, Leave}
 use Rattle.machine.specs.declared.name_move.NameMove.{NameMove}
@@ -14,7 +13,6 @@ use Rattle.machine.specs.declared.name_move.NameMove.TheVariants.{Keep as KeepNa
 use Rattle.machine.specs.State.{State, Limits}
 use Rattle.machine.specs.Acts.{Plan}
 use Rattle.machine.specs.Plan.{plan}
-use Rattle.machine.specs.Apply.{Event}
 use Rattle.machine.specs.Admission.{growth, frames_pass, winds_pass, names_pass, first_refusal, refusal}
 use Rattle.machine.specs.Step.{Outcome, went, finished, refused, admit, settle, most_steps, step}
 use Rattle.laws.specs.Limits.{IsLimit, Wider, SameStep, SameEnd, SameFinish, WiderStep, LimitsOnlyEnd}

@@ -1,9 +1,9 @@
 -- The laws of looking a thing up by its name: what a push, a removal and a change of things do to it.
 use Rattle.std.proofs.Common.{◌≡◌, ℕ, suc, ◌+◌, ◌≤◌, Bool, true, false, cond, eqb, ◌⊎◌, List, [], ◌∷◌, ◌++◌, map, length, Some, None, Option, sym, refl, ap, ◌∙◌, subst, inl, inr, arith}
 use Rattle.std.specs.List.{AllByRecursion as All}
-use Rattle.std.proofs.lemmas.Bool.{cond_both, cond-true, cond-false, eqb-true, eqb-false, eq-eqb, ne_eqb, cases_eq}
-use Rattle.machine.specs.Named.{find, without, changed, changed_all}
-use Rattle.laws.proofs.Counting.{count, one_if}
+use Rattle.std.proofs.lemmas.Bool.{cond_both, cond-true, cond-false, eqb-true, eq-eqb, ne_eqb, cases_eq}
+use Rattle.machine.specs.Named.{find, without}
+use Rattle.laws.proofs.Counting.{count}
 
 module _ {A : Type 0} (name : A → ℕ) where
   -- the names of a list of things

@@ -1,5 +1,5 @@
 -- Lists of calls: each comes to one course of steps.
-use Rattle.std.proofs.Common.{◌≡◌, ℕ, zero, suc, ◌+◌, ◌-◌, ◌≤◌, Bool, true, false, cond, ◌||◌, ltb, List, [], ◌∷◌, ◌++◌, length, take, drop, ℤ, is_some, Some, None, Ok, Err, Option, sym, refl, ap, ◌∙◌, subst, append_assoc, add-zero, arith, length-append}
+use Rattle.std.proofs.Common.{◌≡◌, ℕ, zero, suc, ◌+◌, ◌-◌, ◌≤◌, Bool, true, false, cond, ◌||◌, ltb, List, [], ◌∷◌, ◌++◌, length, drop, ℤ, is_some, Some, None, Option, sym, refl, ap, ◌∙◌, subst, append_assoc, add-zero, arith, length-append}
 use Rattle.std.proofs.lemmas.List.{append-nil, take_at, drop_at, length-drop}
 use Rattle.std.proofs.lemmas.Bool.{ltb-false, cond-true, cond-false}
 use Rattle.code.specs.declared.instruction.Instruction.{Instruction}
@@ -9,15 +9,13 @@ use Rattle.machine.specs.declared.reason.Reason.TheVariants.{BufferFull}
 use Rattle.machine.specs.declared.run_refusal.RunRefusal.{RunRefusal}
 use Rattle.machine.specs.declared.run_refusal.RunRefusal.TheVariants.{HasEnded, BudgetOutOfRange, BufferTooShort}
 use Rattle.machine.specs.State.{State, Limits, start}
-use Rattle.machine.specs.Apply.{Event}
 use Rattle.machine.specs.Step.{Outcome, went, finished, refused, step}
 use Rattle.machine.specs.Course.{Course, follow, course, further, joined}
-use Rattle.machine.specs.Opening.{Run, both_fit, limits_of, started, opened}
-use Rattle.machine.specs.Calls.{Portion, closing, with_step, portion_by, portion, most_budget, least_buffer, Ran, accepted, declined, ran, tallied, looked, forced, Call, run, tally, look, force, Answer, told, answered, served, steps_in, output_in, step_count, joined_output}
-use Rattle.laws.specs.Limits.{IsLimit, Wider}
-use Rattle.laws.specs.Courses.{Begins, Level}
-use Rattle.laws.specs.Counts.{Conserved, Balanced}
-use Rattle.laws.specs.Calls.{Served, steps_of, output_of, BufferKept, BuffersKept, OpeningDecides, Idle, EndedStays, InOrder, OneCourse, CallsJoin, SameAnswers, Agree, TwoRunsAgree}
+use Rattle.machine.specs.Opening.{Run, both_fit, limits_of, started}
+use Rattle.machine.specs.Calls.{Portion, closing, with_step, portion_by, portion, most_budget, least_buffer, Ran, accepted, declined, ran, tallied, looked, forced, Call, run, tally, look, force, Answer, told, answered, served, steps_in, output_in}
+use Rattle.laws.specs.Courses.{Level}
+use Rattle.laws.specs.Counts.{Conserved}
+use Rattle.laws.specs.Calls.{Served, steps_of, output_of, BufferKept, BuffersKept, OpeningDecides, Idle, EndedStays, InOrder, OneCourse, CallsJoin, Agree, TwoRunsAgree}
 use Rattle.laws.proofs.Courses.{same_count, one_output, no_longer, ends_alike, portions_join, steps-made, all_made, ended_there}
 use Rattle.laws.proofs.Counts.{counts-conserved, counts_within_steps, winds-balanced}
 

@@ -1,10 +1,9 @@
 -- A one-shot continuation comes back at most once.
-use Rattle.std.proofs.Common.{◌≡◌, ℕ, zero, suc, ◌≤◌, Bool, true, false, cond, eqb, ltb, leb, ◌⊎◌, List, [], ◌∷◌, reverse, length, ℤ, Some, None, Ok, Err, Option, sym, refl, ap, ◌∙◌, subst, inl, inr, arith}
+use Rattle.std.proofs.Common.{◌≡◌, ℕ, zero, suc, ◌≤◌, Bool, true, false, cond, eqb, ltb, leb, List, [], ◌∷◌, reverse, length, Some, None, Ok, Err, Option, sym, refl, ap, ◌∙◌, subst, inl, inr, arith}
 use lib.ListN.{length-reverse}
-use Rattle.std.specs.List.{slice_get}
 use Rattle.std.specs.Option.{ok_or}
 use Rattle.std.proofs.lemmas.Option.{slice_get_past}
-use Rattle.std.proofs.lemmas.Bool.{cond-true, eq-eqb, le-ltb, cases_eq}
+use Rattle.std.proofs.lemmas.Bool.{cond-true, eq-eqb, le-ltb}
 use Rattle.cell.specs.declared.name.Name.{Name}
 use Rattle.cell.specs.declared.value.Value.{Value}
 use Rattle.cell.specs.declared.frame.Frame.{Frame}
@@ -21,17 +20,17 @@ use Rattle.machine.specs.declared.mode.Mode.{Mode}
 use Rattle.machine.specs.declared.mode.Mode.TheVariants.{Returning, Throwing}
 use Rattle.machine.specs.Named.{find}
 use Rattle.machine.specs.State.{State, Capture, Limits, capture_name, wind_number, wind_numbers, start}
-use Rattle.machine.specs.Checks.{◌>>=◌, held_under}
-use Rattle.machine.specs.Acts.{Plan, moves, writing, framing, naming, does}
-use Rattle.machine.specs.Returning.{spends, wind_at, return, resume}
-use Rattle.machine.specs.Throwing.{common, shared, unwind, throw}
+use Rattle.machine.specs.Checks.{◌>>=◌}
+use Rattle.machine.specs.Acts.{Plan, moves, framing, naming, does}
+use Rattle.machine.specs.Returning.{spends, wind_at, return}
+use Rattle.machine.specs.Throwing.{common, shared, unwind}
 use Rattle.machine.specs.Plan.{plan, plan_in}
-use Rattle.machine.specs.Apply.{frames_after, held_after, apply, Event, events}
+use Rattle.machine.specs.Apply.{frames_after, held_after, apply, Event}
 use Rattle.machine.specs.Admission.{refusal}
 use Rattle.machine.specs.Step.{Outcome, went, finished, refused, admit, settle, most_steps, step}
-use Rattle.machine.specs.Course.{Course, follow, course}
+use Rattle.machine.specs.Course.{follow, course}
 use Rattle.laws.specs.OneShot.{Released, ComesBack, OneShotOnce}
-use Rattle.laws.proofs.Counting.{length-map, map-reverse}
+use Rattle.laws.proofs.Counting.{length-map}
 use Rattle.laws.proofs.Named.{find-removed}
 use Rattle.laws.proofs.Sound.{Sound, made_up, Was, was}
 use Rattle.laws.proofs.Steps.{Reached, Good, MadeStep, made-step, good_step, good_course, start_reached}

@@ -1,11 +1,10 @@
 -- What holds of every step that is made, and so of every course of steps.
-use Rattle.std.proofs.Common.{◌≡◌, ℕ, zero, suc, ◌+◌, ◌<◌, ◌≤◌, Bool, true, false, cond, leb, List, [], ◌∷◌, ◌++◌, map, length, ℤ, Some, None, Ok, Err, Option, sym, refl, ap, subst, arith, length-append}
+use Rattle.std.proofs.Common.{◌≡◌, ℕ, zero, suc, ◌+◌, ◌<◌, ◌≤◌, Bool, true, false, cond, leb, List, [], ◌∷◌, ◌++◌, map, length, ℤ, Some, None, Ok, Err, Option, refl, ap, subst, arith, length-append}
 use Rattle.std.specs.List.{AllByRecursion as All}
 use Rattle.std.proofs.lemmas.Bool.{leb-true, leb-false, ltb-true}
-use Rattle.std.proofs.ByRecursion.{All-map}
 use Rattle.cell.specs.declared.frame.Frame.{Frame}
 use Rattle.cell.specs.declared.wind.Wind.{Wind}
-use Rattle.cell.specs.declared.value.Value.TheVariants.{Empty, Number}
+use Rattle.cell.specs.declared.value.Value.TheVariants.{Number}
 use Rattle.code.specs.declared.instruction.Instruction.{Instruction}
 use Rattle.machine.specs.declared.act.Act.{Act}
 use Rattle.machine.specs.declared.next.Next.TheVariants.{Halt, Go}
@@ -22,10 +21,10 @@ use Rattle.machine.specs.Names.{value_names}
 use Rattle.machine.specs.State.{State, Capture, Limits, Counts, capture_name, wind_numbers, start}
 use Rattle.machine.specs.Acts.{Plan}
 use Rattle.machine.specs.Plan.{plan}
-use Rattle.machine.specs.Apply.{below, replaced, saved_frames, frames_after, winds_after, promoted, held_after, counted, made_after, numbered_after, entered_after, left_after, apply, halted, Event, enters, leaves, leaves_top, events}
+use Rattle.machine.specs.Apply.{below, replaced, saved_frames, frames_after, winds_after, held_after, counted, made_after, numbered_after, entered_after, left_after, apply, halted, Event, enters, leaves, leaves_top, events}
 use Rattle.machine.specs.Admission.{growth, frames_pass, winds_pass, names_pass, first_refusal, refusal}
 use Rattle.machine.specs.Step.{Outcome, went, finished, refused, admit, settle, most_steps, step}
-use Rattle.machine.specs.Course.{Course, follow, course}
+use Rattle.machine.specs.Course.{follow, course}
 use Rattle.laws.specs.Counts.{WithinSteps, entering, entering_of, leaving, leaving_of}
 use Rattle.laws.specs.Reached.{Within}
 use Rattle.laws.proofs.Counting.{count}

@@ -1,13 +1,13 @@
 -- What lists of calls on runs have in common, whatever their budgets, their buffers and their limits.
 -- A moment of a run is the beginning of its list of calls up to there, so each law below holds at every moment.
-use Rattle.std.specs.Prelude.{◌≡◌, ℕ, suc, ◌≤◌, true, false, List, [], length, take, drop, ℤ, Some, None, Ok, Option}
+use Rattle.std.specs.Prelude.{◌≡◌, ℕ, suc, ◌≤◌, true, false, List, [], length, take, drop, ℤ, Some, None, Ok}
 use Rattle.code.specs.declared.instruction.Instruction.{Instruction}
 use Rattle.machine.specs.declared.end.End.{End}
 use Rattle.machine.specs.declared.end.End.TheVariants.{UnfitStores}
-use Rattle.machine.specs.State.{State, Limits, start}
+use Rattle.machine.specs.State.{Limits, start}
 use Rattle.machine.specs.Checks.{signed_word}
 use Rattle.machine.specs.Printed.{line}
-use Rattle.machine.specs.Course.{Course, course}
+use Rattle.machine.specs.Course.{course}
 use Rattle.machine.specs.Opening.{Offer, Run, both_fit, limits_of, started, opened}
 use Rattle.machine.specs.Calls.{Call, Answer, Ran, ran, least_buffer, bytes_told, steps_told, tallied, looked, forced, served, step_count, joined_output}
 use Rattle.laws.specs.Limits.{IsLimit, Wider}

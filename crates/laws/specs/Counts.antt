@@ -1,6 +1,6 @@
 -- What a run's counts, its names and its winds tell at every state that a run from the start comes to.
 use Rattle.std.specs.Prelude.{◌≡◌, ℕ, suc, ◌+◌, ◌≤◌, cond, ◌⊎◌, List, [], ◌∷◌, length, ℤ, ◌==◌}
-use Rattle.std.specs.List.{AllByRecursion as All}
+use Rattle.std.specs.List.{AllByRecursion}
 use Rattle.cell.specs.declared.value.Value.{Value}
 use Rattle.cell.specs.declared.frame.Frame.{Frame}
 use Rattle.cell.specs.declared.wind.Wind.{Wind}
@@ -43,19 +43,19 @@ module _ (s : State) where
 
   -- so were the names in a value
   abbrev pub ValueMade : Value → Type 0
-  ValueMade v = All Made (value_names v)
+  ValueMade v = AllByRecursion Made (value_names v)
 
   -- so were the names in a frame
   abbrev pub FrameMade : Frame → Type 0
-  FrameMade f = All Made (frame_names f)
+  FrameMade f = AllByRecursion Made (frame_names f)
 
   -- and so were all names in the state
   pub record NamesMade : Type 0 where
-    pub registers : All ValueMade s.registers
-    pub globals : All ValueMade s.globals
-    pub frames : All FrameMade s.frames
-    pub mode : All Made (mode_names s.mode)
-    pub held : All (λ (c : Capture). (c.name.0 ≤ s.counts.made) × All FrameMade c.frames) s.held
+    pub registers : AllByRecursion ValueMade s.registers
+    pub globals : AllByRecursion ValueMade s.globals
+    pub frames : AllByRecursion FrameMade s.frames
+    pub mode : AllByRecursion Made (mode_names s.mode)
+    pub held : AllByRecursion (λ (c : Capture). (c.name.0 ≤ s.counts.made) × AllByRecursion FrameMade c.frames) s.held
 
 -- that always
 abbrev pub AllNamesMade : Type 0

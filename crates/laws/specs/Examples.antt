@@ -1,5 +1,5 @@
 -- Small pieces of code with lists of calls, and what each call tells: one table.
-use Rattle.std.specs.Prelude.{ℕ, ◌+◌, ◌-◌, Bool, true, false, ◌&&◌, T, List, [], ◌∷◌, ◌++◌, map, take, replicate, ℤ, pos, negsuc, Some, None, Ok, Err, Option, Result, ◌==◌}
+use Rattle.std.specs.Prelude.{ℕ, ◌-◌, Bool, true, false, ◌&&◌, T, List, [], ◌∷◌, ◌++◌, map, take, replicate, ℤ, pos, negsuc, Some, None, Ok, Err, Option, Result, ◌==◌}
 use Rattle.cell.specs.declared.address.Address.{Address}
 use Rattle.cell.specs.declared.value.Value.{Value}
 use Rattle.cell.specs.declared.value.Value.TheVariants.{Empty, Number, Procedure, Continuation}
@@ -9,7 +9,7 @@ use Rattle.cell.specs.declared.wind.Wind.{Wind}
 use Rattle.code.specs.declared.register.Register.{Register}
 use Rattle.code.specs.declared.global.Global.{Global}
 use Rattle.code.specs.declared.instruction.Instruction.{Instruction}
-use Rattle.code.specs.declared.instruction.Instruction.TheVariants.{Set, Proc, Load, Store, Add, Sub, Less, Jump, Zero, Push, Pop, Print, Call as CallRegister, Tail, CallCc, CallOnce, Forget, DynamicWind, Return, Stop}
+use Rattle.code.specs.declared.instruction.Instruction.TheVariants.{Set, Proc, Load, Store, Add, Sub, Less, Zero, Push, Pop, Print, Call as CallRegister, Tail, CallCc, CallOnce, Forget, DynamicWind, Return, Stop}
 use Rattle.machine.specs.declared.end.End.{End}
 use Rattle.machine.specs.declared.end.End.TheVariants.{Finished, WrongKind, SumOutOfRange, WrongFrame, NotHeld, OffTheEnd, FrameLimit, WindLimit, HeldLimit, UnfitStores, StepLimit}
 use Rattle.machine.specs.declared.index_refusal.IndexRefusal.{IndexRefusal}

@@ -1,6 +1,6 @@
 -- What no run from the start ever meets.
 use Rattle.std.specs.Prelude.{◌≡◌, ℕ, suc, ◌+◌, ◌<◌, ◌≤◌, List, [], ◌∷◌, length, Some, None, Ok, Err, ◌≢◌}
-use Rattle.std.specs.List.{AllByRecursion as All}
+use Rattle.std.specs.List.{AllByRecursion}
 use Rattle.cell.specs.declared.name.Name.{Name}
 use Rattle.cell.specs.declared.value.Value.{Value}
 use Rattle.cell.specs.declared.frame.Frame.{Frame}
@@ -18,7 +18,6 @@ use Rattle.machine.specs.declared.end.End.TheVariants.{Finished, WrongKind, SumO
 use Rattle.machine.specs.Named.{find}
 use Rattle.machine.specs.State.{State, Capture, Limits, capture_name, wind_numbers}
 use Rattle.machine.specs.Plan.{plan}
-use Rattle.machine.specs.Course.{Course}
 use Rattle.laws.specs.Counts.{Always}
 
 -- what is current, held and saved keeps within the limits
@@ -26,7 +25,7 @@ pub record Within (l : Limits) (s : State) : Type 0 where
   pub frames : length s.frames ≤ l.frames
   pub winds : length s.winds ≤ l.winds
   pub held : length s.held ≤ l.held
-  pub saved : All (λ (c : Capture). (length c.frames ≤ l.frames) × (length c.winds ≤ l.winds)) s.held
+  pub saved : AllByRecursion (λ (c : Capture). (length c.frames ≤ l.frames) × (length c.winds ≤ l.winds)) s.held
 
 -- that always
 abbrev pub LimitsKept : Type 0

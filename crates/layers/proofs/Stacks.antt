@@ -4,7 +4,7 @@ use Rattle.std.specs.List.{slice_get}
 use Rattle.std.proofs.lemmas.List.{append_assoc, append-nil, length-append, length_push, length-take-le, take_at, take_more, take_more_set, get_or-take}
 use Rattle.std.proofs.lemmas.Option.{slice_get-get_or, slice_get_past}
 use Rattle.std.proofs.lemmas.Bool.{cond-true, cond-false, le-leb, lt-leb}
-use Rattle.store.specs.Meaning.{Meaning, Outcome, pushed, popped, popped_by, top, with_current}
+use Rattle.store.specs.Meaning.{Meaning, pushed, popped, popped_by, top, with_current}
 use Rattle.store.specs.declared.refusal.Refusal.TheVariants.{Full}
 use Rattle.layers.specs.Layers.{topped, lowered, raised, kept_count}
 

@@ -16,7 +16,7 @@ use Rattle.bottom.proofs.Rows.{places_push, places-without, all_under, all_witho
 use Rattle.bottom.proofs.Tops.{popped_push}
 use Rattle.linked.specs.declared.linked.Linked.{Linked}
 use Rattle.linked.specs.declared.node.Node.{Node}
-use Rattle.linked.specs.Chains.{nodeAt, cells, with_top, Ends}
+use Rattle.linked.specs.Chains.{node_at, cells, with_top, Ends}
 use Rattle.linked.specs.Meant.{size, meant, read_row}
 use Rattle.linked.specs.Moves.{Holds, HoldsSomehow, Moved, LetGo, TopDropped, shared}
 use Rattle.linked.proofs.Facts.{Facts, Fits, Alike, list_at, settled, settled_alike, alike_both, meant_alike, tops_rooted, share_facts, one_held}
@@ -29,7 +29,7 @@ pub fixed_same : (s : Linked) (ms : List Node) (limit : ℕ) → limit ≡ s.tab
 fixed_same s ms limit e d = ap (λ m. (cells_needed s.depth m, drop (cells_needed s.depth m) ms)) e ∙ ap (λ xs. (size s, xs)) d
 
 -- a list that may be shared: its top is there, and has room for a holder more
-pub sharable : (s : Linked) (r : Row) → Fits (nodes_of s) (size s) s.depth r → 0 < r.len → (r.at < length (nodes_of s)) × ((nodeAt (nodes_of s) r.at).holders + 1 < 2 ^ 32)
+pub sharable : (s : Linked) (r : Row) → Fits (nodes_of s) (size s) s.depth r → 0 < r.len → (r.at < length (nodes_of s)) × ((node_at (nodes_of s) r.at).holders + 1 < 2 ^ 32)
 sharable s r fit l = let w = ends-within (nodes_of s) (size s) r.at r.len l fit.1 in (in_nodes s r.at w, holders_fit s r.at w)
 
 -- sharing a list changes nothing past the need
@@ -59,17 +59,17 @@ module _ (s : Linked) (some : 0 < s.len) where
   pop_somehow = record { size = size s; depth = s.depth; others = places (listed s.table); holds = pop_holds }
 
   -- below its top is a list
-  rest-fit : Fits (nodes_of s) (size s) s.depth (list_at (nodeAt (nodes_of s) s.top).link (s.len - 1))
+  rest-fit : Fits (nodes_of s) (size s) s.depth (list_at (node_at (nodes_of s) s.top).link (s.len - 1))
   rest-fit = let f = (facts_of s).fitting.0 in let l = f.0 in (omega arith, ends-rest (nodes_of s) (size s) s.top s.len some f.1)
 
   -- whose top has room for a holder more
-  pub pop_small : 1 < s.len → (nodeAt (nodes_of s) (nodeAt (nodes_of s) s.top).link).holders + 1 < 2 ^ 32
+  pub pop_small : 1 < s.len → (node_at (nodes_of s) (node_at (nodes_of s) s.top).link).holders + 1 < 2 ^ 32
   pop_small l = holders_fit s _ (ends-within (nodes_of s) (size s) _ (s.len - 1) (omega arith) rest-fit.1)
 
-  module _ (ms : List Node) (g : ℕ) (r : Node) (is : r ≡ nodeAt (nodes_of s) s.top) (all : TopDropped (nodes_of s) ms s.free g s.top s.len) where
+  module _ (ms : List Node) (g : ℕ) (r : Node) (is : r ≡ node_at (nodes_of s) s.top) (all : TopDropped (nodes_of s) ms s.free g s.top s.len) where
     -- the next top
     abbrev link : ℕ
-    link = (nodeAt (nodes_of s) s.top).link
+    link = (node_at (nodes_of s) s.top).link
 
     abbrev left : List Row
     left = list_at link (s.len - 1) ∷ listed s.table
@@ -89,10 +89,10 @@ module _ (s : Linked) (some : 0 < s.len) where
     pub pop_means : (Ok r.cell, by_rows (read_row ms) (cells ms r.link (s.len - 1)) (listed s.table) s.depth s.table.limit) ≡ popped (meant s)
     pop_means =
         subst (λ (y : Node). (Ok y.cell, by_rows (read_row ms) (cells ms y.link (s.len - 1)) (listed s.table) s.depth s.table.limit) ≡ popped (meant s)) (sym is)
-        (ap (λ m. (Ok (nodeAt (nodes_of s) s.top).cell, m))
+        (ap (λ m. (Ok (node_at (nodes_of s) s.top).cell, m))
         (meant_alike (nodes_of s) ms (list_at link (s.len - 1)) (listed s.table) (listed s.table) s.depth s.table.limit s.table.limit
         (settled_alike (nodes_of s) ms (size s) s.depth s.free g (lists_of s) left (facts_of s) popped_moved (rest-fit, (facts_of s).fitting.1)) refl refl)
-        ∙ sym (popped_push (meant s) (cells (nodes_of s) link (s.len - 1)) (nodeAt (nodes_of s) s.top).cell (ap (cells (nodes_of s) s.top) (let q : s.len ≡ suc (s.len - 1) = omega arith in q))))
+        ∙ sym (popped_push (meant s) (cells (nodes_of s) link (s.len - 1)) (node_at (nodes_of s) s.top).cell (ap (cells (nodes_of s) s.top) (let q : s.len ≡ suc (s.len - 1) = omega arith in q))))
 
     -- nothing past the need has changed
     pub pop_beyond : drop (size s) ms ≡ drop (size s) (nodes_of s)

@@ -12,7 +12,7 @@ use Rattle.bottom.specs.Rows.{bit, places}
 use Rattle.bottom.proofs.Rows.{bit_other, places_own, places_le, all_both}
 use Rattle.bottom.proofs.Tops.{nth_left, nth_right}
 use Rattle.linked.specs.declared.node.Node.{Node}
-use Rattle.linked.specs.Chains.{nodeAt, cells, total, leads, unheld, with_top, Ends, Free}
+use Rattle.linked.specs.Chains.{node_at, cells, total, leads, unheld, with_top, Ends, Free}
 use Rattle.linked.specs.Meant.{read_row}
 use Rattle.linked.specs.Moves.{Sound, Holds, Moved, shared}
 use Rattle.linked.proofs.Totals.{held-zero, held_le, free-zero, total-zero, total_ones, total-small, total_plus}
@@ -41,15 +41,15 @@ pub record Facts (ns : List Node) (p depth f : ℕ) (ls : List Row) : Type 0 whe
 -- a list has so many cells as nodes
 pub length-cells : (ns : List Node) (n t : ℕ) → length (cells ns t n) ≡ n
 length-cells ns zero t = refl
-length-cells ns (suc n) t = length_push (cells ns (nodeAt ns t).link n) (nodeAt ns t).cell ∙ (let e = length-cells ns n (nodeAt ns t).link in omega arith)
+length-cells ns (suc n) t = length_push (cells ns (node_at ns t).link n) (node_at ns t).cell ∙ (let e = length-cells ns n (node_at ns t).link in omega arith)
 
 -- the cell at an index of a list: that of its top, or one of those below
-pub cell_down : (ns : List Node) (t n index : ℕ) → index < n → slice_get (cells ns t (suc n)) index ≡ slice_get (cells ns (nodeAt ns t).link n) index
-cell_down ns t n index l = nth_left (cells ns (nodeAt ns t).link n) _ index (let e = length-cells ns n (nodeAt ns t).link in omega arith)
+pub cell_down : (ns : List Node) (t n index : ℕ) → index < n → slice_get (cells ns t (suc n)) index ≡ slice_get (cells ns (node_at ns t).link n) index
+cell_down ns t n index l = nth_left (cells ns (node_at ns t).link n) _ index (let e = length-cells ns n (node_at ns t).link in omega arith)
 
 -- the top cell is the last
-pub cell_top : (ns : List Node) (t index : ℕ) → slice_get (cells ns t (suc index)) index ≡ Some (nodeAt ns t).cell
-cell_top ns t index = nth_right (cells ns (nodeAt ns t).link index) ((nodeAt ns t).cell ∷ []) index 0 (let e = length-cells ns index (nodeAt ns t).link in omega arith)
+pub cell_top : (ns : List Node) (t index : ℕ) → slice_get (cells ns t (suc index)) index ≡ Some (node_at ns t).cell
+cell_top ns t index = nth_right (cells ns (node_at ns t).link index) ((node_at ns t).cell ∷ []) index 0 (let e = length-cells ns index (node_at ns t).link in omega arith)
 
 -- lists that a change kept
 module _ (ns ms : List Node) (p depth g : ℕ) (Q K : ℕ → ℕ) (m : Moved ns ms p depth g Q K) (ls : List Row) (tops : All (λ r. 0 < K r.at) ls) (fitting : All (Fits ns p depth) ls) where
@@ -86,11 +86,11 @@ module _ (ns : List Node) (p depth f : ℕ) (ls : List Row) (F : Facts ns p dept
   tops_rooted = All-weaker _ _ (λ r h. rooted ns p (places ls) F.sound.counted r.at h) ls (places_own ls)
 
   -- no node has more holders than there are lists and nodes
-  pub holders_small : (k : ℕ) → k < p → (nodeAt ns k).holders ≤ length ls + p
+  pub holders_small : (k : ℕ) → k < p → (node_at ns k).holders ≤ length ls + p
   holders_small k l =
       let e = F.sound.counted k l in
       let a = places_le ls k in
-      let c = total-small (leads ns k) p (λ i m. held_le (nodeAt ns i).holders (nodeAt ns i).link k) in
+      let c = total-small (leads ns k) p (λ i m. held_le (node_at ns i).holders (node_at ns i).link k) in
       omega arith
 
   -- one of these lists has a top more
@@ -140,7 +140,7 @@ module _ (ns : List Node) (p depth f t len : ℕ) (rs : List Row) (F : Facts ns 
     put = put_set ns f _ (let a = F.room in omega arith)
 
     -- the other lists are as they were
-    push_moved : Moved ns grown p depth (nodeAt ns f).link (places (list_at f (len + 1) ∷ rs)) (places (list_at t len ∷ rs))
+    push_moved : Moved ns grown p depth (node_at ns f).link (places (list_at f (len + 1) ∷ rs)) (places (list_at t len ∷ rs))
     push_moved =
         let Q : ℕ → ℕ = places (list_at f (len + 1) ∷ rs) in
         let K : ℕ → ℕ = places (list_at t len ∷ rs) in
@@ -163,10 +163,10 @@ module _ (ns : List Node) (p depth f t len : ℕ) (rs : List Row) (F : Facts ns 
     push_alike = still_alike ns grown p depth _ _ _ push_moved (list_at t len ∷ rs) (places_own (list_at t len ∷ rs)) F.fitting
 
     -- the facts then
-    pub push_facts : (next : ℕ) → next ≡ (nodeAt ns f).link → Facts grown p depth next (list_at f (len + 1) ∷ rs)
+    pub push_facts : (next : ℕ) → next ≡ (node_at ns f).link → Facts grown p depth next (list_at f (len + 1) ∷ rs)
     push_facts next is =
         let one : suc len ≡ len + 1 = omega arith in
-        let link : (nodeAt grown f).link ≡ t = ap (λ (y : Node). y.link) put.here in
+        let link : (node_at grown f).link ≡ t = ap (λ (y : Node). y.link) put.here in
         let new : Ends grown p f (len + 1) = subst (λ n. Ends grown p f n) one (within, subst (λ u. Ends grown p u len) (sym link) push_old.0.1) in
         record {
           sound = subst (λ g. Sound grown g p depth (places (list_at f (len + 1) ∷ rs))) (sym is) push_moved.sound;
@@ -185,7 +185,7 @@ module _ (ns : List Node) (p depth f t len : ℕ) (rs : List Row) (F : Facts ns 
     push_beyond = drop-set-lt p ns f _ within
 
 -- the nodes as a new store has them: all free, one linked to the next
-module _ (ns : List Node) (p : ℕ) (linked : (k : ℕ) → k < p → ((nodeAt ns k).link ≡ k + 1) × ((nodeAt ns k).holders ≡ 0)) where
+module _ (ns : List Node) (p : ℕ) (linked : (k : ℕ) → k < p → ((node_at ns k).link ≡ k + 1) × ((node_at ns k).holders ≡ 0)) where
   -- they are linked from any one on
   new-free : (n k : ℕ) → k + n ≡ p → Free ns p k n
   new-free zero k e = omega arith

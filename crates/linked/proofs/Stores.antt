@@ -10,7 +10,7 @@ use Rattle.bottom.proofs.Rows.{every-from, every_to}
 use Rattle.bottom.proofs.Tables.{length-listed}
 use Rattle.linked.specs.declared.linked.Linked.{Linked}
 use Rattle.linked.specs.declared.node.Node.{Node}
-use Rattle.linked.specs.Chains.{nodeAt, total, unheld, lists, row_fits, Counted, Shallow, all_free}
+use Rattle.linked.specs.Chains.{node_at, total, unheld, lists, row_fits, Counted, Shallow, all_free}
 use Rattle.linked.specs.Meant.{size}
 use Rattle.linked.proofs.Changes.{ends-from, ends_to, free-from, free_to}
 use Rattle.linked.proofs.Facts.{Facts, Fits, list_at, free-within, room-left, needed_small, holders_small}
@@ -86,7 +86,7 @@ free_in s l =
     free-within (nodes_of s) (size s) s.depth s.free s.top s.len (listed s.table) (facts_of s) (room-left s.depth s.table.limit (length (listed s.table)) s.len h l)
 
 -- a count of holders has room to grow, by far
-pub holders_fit : (s : Linked) (k : ℕ) → k < size s → (nodeAt (nodes_of s) k).holders + 1 < 2 ^ 32
+pub holders_fit : (s : Linked) (k : ℕ) → k < size s → (node_at (nodes_of s) k).holders + 1 < 2 ^ 32
 holders_fit s k l =
     let a = holders_small (nodes_of s) (size s) s.depth s.free (lists_of s) (facts_of s) k l in
     let b = needed_small s.depth s.table.limit s.flat s.table.few in

@@ -1,7 +1,7 @@
 -- What a change of the nodes keeps.
 use Rattle.std.specs.Prelude.{◌≡◌, ℕ, zero, suc, ◌+◌, ◌<◌, ◌≤◌, List, length, drop, slice_set}
 use Rattle.linked.specs.declared.node.Node.{Node}
-use Rattle.linked.specs.Chains.{nodeAt, cells, total, unheld, with_top, Counted, Shallow, Ends, Free}
+use Rattle.linked.specs.Chains.{node_at, cells, total, unheld, with_top, Counted, Shallow, Ends, Free}
 
 -- the counts of holders are right where R k lists have their top at k, no list is too deep, and all free nodes are linked from f on
 pub record Sound (ns : List Node) (f p depth : ℕ) (R : ℕ → ℕ) : Type 0 where
@@ -40,7 +40,7 @@ LetGo ns ms f g t n = (p depth : ℕ) (R : ℕ → ℕ) → Holds ns p depth f t
 
 -- the top of a list was taken off, whatever the others are: these and the rest of the list are as they were
 abbrev pub TopDropped : List Node → List Node → ℕ → ℕ → ℕ → ℕ → Type 0
-TopDropped ns ms f g t n = (p depth : ℕ) (R : ℕ → ℕ) → Holds ns p depth f t n R → Moved ns ms p depth g (with_top (nodeAt ns t).link R) (with_top (nodeAt ns t).link R)
+TopDropped ns ms f g t n = (p depth : ℕ) (R : ℕ → ℕ) → Holds ns p depth f t n R → Moved ns ms p depth g (with_top (node_at ns t).link R) (with_top (node_at ns t).link R)
 
 -- a node with another number of holders
 abbrev pub recounted : Node → ℕ → Node
@@ -49,4 +49,4 @@ recounted n h = record { cell = n.cell; link = n.link; holders = h }
 -- one holder more for the top of a list, if it has any node
 abbrev pub shared : List Node → ℕ → ℕ → List Node
 shared ns t zero = ns
-shared ns t (suc n) = slice_set ns t (recounted (nodeAt ns t) ((nodeAt ns t).holders + 1))
+shared ns t (suc n) = slice_set ns t (recounted (node_at ns t) ((node_at ns t).holders + 1))

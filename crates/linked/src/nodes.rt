@@ -1,6 +1,6 @@
 //! Lists of linked nodes, and how their nodes are shared, freed and used again.
 ghost use Rattle.std.specs.Prelude.{◌≡◌, ℕ, ◌+◌, ◌^◌, ◌<◌, ◌≤◌, length, drop};
-ghost use Rattle.linked.specs.Chains.{nodeAt};
+ghost use Rattle.linked.specs.Chains.{node_at};
 ghost use Rattle.linked.specs.Moves.{shared, HoldsSomehow, LetGo, TopDropped};
 
 use crate::node::Node;
@@ -11,7 +11,7 @@ pub const END: u32 = u32::MAX;
 /// Links the first nodes one to the next, all of them without a holder.
 pub fn link_free(nodes: &mut Vec<Node>, size: usize)
     requires { (size ≤ length nodes.old.items) × (size < 2 ^ 32) }
-    ensures linked { (k : ℕ) → k < size → ((nodeAt nodes.new.items k).link ≡ k + 1) × ((nodeAt nodes.new.items k).holders ≡ 0) }
+    ensures linked { (k : ℕ) → k < size → ((node_at nodes.new.items k).link ≡ k + 1) × ((node_at nodes.new.items k).holders ≡ 0) }
     ensures beyond { drop size nodes.new.items ≡ drop size nodes.old.items }
     ensures len { length nodes.new.items ≡ length nodes.old.items }
 {
@@ -27,7 +27,7 @@ pub fn link_free(nodes: &mut Vec<Node>, size: usize)
 
 /// One holder more for the top of a list, if the list has any node.
 pub fn share(nodes: &mut Vec<Node>, top: u32, len: u32)
-    requires { 0 < len → (top < length nodes.old.items) × ((nodeAt nodes.old.items top).holders + 1 < 2 ^ 32) }
+    requires { 0 < len → (top < length nodes.old.items) × ((node_at nodes.old.items top).holders + 1 < 2 ^ 32) }
     ensures { nodes.new.items ≡ shared nodes.old.items top len }
 {
     if len == 0 {
@@ -44,7 +44,7 @@ pub fn share(nodes: &mut Vec<Node>, top: u32, len: u32)
 pub fn drop_top(nodes: &mut Vec<Node>, free: u32, top: u32, len: u32) -> u32
     requires some { 0 < len }
     requires held { HoldsSomehow nodes.old.items free top len }
-    requires small { 1 < len → (nodeAt nodes.old.items (nodeAt nodes.old.items top).link).holders + 1 < 2 ^ 32 }
+    requires small { 1 < len → (node_at nodes.old.items (node_at nodes.old.items top).link).holders + 1 < 2 ^ 32 }
     ensures { TopDropped nodes.old.items nodes.new.items free result top len }
 {
     let node = nodes[top as usize];

@@ -1,5 +1,5 @@
 -- The checks of a step, each with the end that it can give. Of several checks in a row the first that fails tells the end.
-use Rattle.std.specs.Prelude.{ℕ, cond, List, [], ◌∷◌, ℤ, pos, negsuc, Ok, Err, Result, int_le}
+use Rattle.std.specs.Prelude.{cond, List, [], ◌∷◌, ℤ, pos, negsuc, Ok, Err, Result, int_le}
 use Rattle.std.specs.Option.{ok_or}
 use Rattle.cell.specs.declared.address.Address.{Address}
 use Rattle.cell.specs.declared.name.Name.{Name}

@@ -1,5 +1,5 @@
 -- Going: what each instruction does.
-use Rattle.std.specs.Prelude.{ℕ, ◌+◌, Bool, false, cond, List, [], ◌∷◌, ℤ, pos, negsuc, ◌+ℤ◌, ◌-ℤ◌, Some, None, Ok, Err, Option, ◌==◌, int_lt, slice_index_or}
+use Rattle.std.specs.Prelude.{◌+◌, Bool, false, cond, List, [], ◌∷◌, ℤ, pos, negsuc, ◌+ℤ◌, ◌-ℤ◌, Some, None, Ok, Err, Option, ◌==◌, int_lt, slice_index_or}
 use Rattle.cell.specs.declared.address.Address.{Address}
 use Rattle.cell.specs.declared.name.Name.{Name}
 use Rattle.cell.specs.declared.value.Value.{Value}
@@ -18,7 +18,7 @@ use Rattle.machine.specs.declared.name_move.NameMove.TheVariants.{SaveMany, Save
 use Rattle.machine.specs.declared.mode.Mode.TheVariants.{Going, Returning, Throwing}
 use Rattle.machine.specs.declared.end.End.TheVariants.{WrongKind, WrongFrame, OffTheEnd}
 use Rattle.machine.specs.State.{State}
-use Rattle.machine.specs.Checks.{Checked, ◌>>=◌, number, procedure, continuation, signed_word, held_under}
+use Rattle.machine.specs.Checks.{◌>>=◌, number, procedure, continuation, signed_word, held_under}
 use Rattle.machine.specs.Acts.{Plan, moves, writing, framing, naming, printing, does}
 
 -- r0

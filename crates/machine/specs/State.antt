@@ -1,5 +1,5 @@
 -- The machine's state, and the limits that a run has. Frames and winds stand top first; an index counts from the bottom.
-use Rattle.std.specs.Prelude.{ℕ, Bool, false, List, [], ◌∷◌, map, replicate, ℤ}
+use Rattle.std.specs.Prelude.{ℕ, Bool, false, List, [], map, replicate, ℤ}
 use Rattle.cell.specs.declared.address.Address.{Address}
 use Rattle.cell.specs.declared.name.Name.{Name}
 use Rattle.cell.specs.declared.value.Value.{Value}

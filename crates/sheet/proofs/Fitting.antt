@@ -1,5 +1,5 @@
 -- Every code that a sheet is read as fits: its operands are in range, and its labels stand within it.
-use Rattle.std.proofs.Common.{◌≡◌, ℕ, ◌+◌, ◌<◌, ◌≤◌, Bool, true, cond, ◌&&◌, eqb, ltb, leb, List, [], ◌∷◌, ◌++◌, length, IfSome, Some, None, Ok, Err, Option, Result, refl, subst, arith}
+use Rattle.std.proofs.Common.{◌≡◌, ℕ, ◌+◌, ◌<◌, ◌≤◌, Bool, true, ◌&&◌, eqb, ltb, leb, List, [], ◌∷◌, ◌++◌, length, IfSome, Some, None, Ok, Err, Option, Result, refl, subst, arith}
 use Rattle.std.specs.List.{AllByRecursion}
 use Rattle.std.proofs.ByRecursion.{All-push, All-weaker}
 use Rattle.std.proofs.lemmas.List.{length_push}
@@ -22,7 +22,7 @@ use Rattle.sheet.specs.declared.unresolved.Unresolved.{Unresolved}
 use Rattle.sheet.specs.Assembly.{Assembly, empty, target, defined, added, by_kind, line_taken}
 use Rattle.lexer.specs.Bytes.{same}
 use Rattle.lexer.specs.Checks.{◌>>=◌}
-use Rattle.lexer.specs.Kinds.{Kind, kind, blank, comment, label as label-kind, instruction as instruction-kind, printable}
+use Rattle.lexer.specs.Kinds.{Kind, kind, blank, comment, label as label_kind, instruction as instruction_kind, printable}
 use Rattle.lexer.specs.Names.{label_name}
 use Rattle.lexer.specs.Number.{magnitude, number}
 use Rattle.sheet.specs.Operands.{small, lettered, register, global, label, registers, with_operands, by_word, instruction}
@@ -141,8 +141,8 @@ added_well a w line u h =
 kind_well : (a : Assembly) → Well a → (n : ℕ) (k : Kind) → Passes Well (by_kind a n k)
 kind_well a w n blank = w
 kind_well a w n comment = w
-kind_well a w n (label-kind name) = defined_well a w (label_name name)
-kind_well a w n (instruction-kind text) =
+kind_well a w n (label_kind name) = defined_well a w (label_name name)
+kind_well a w n (instruction_kind text) =
     passes_bind Sound Well (instruction text) (added a n) (by_word-sound (mnemonic (word_at (words text) 0)) (words text)) (λ u h. added_well a w n u h)
 
 line_well : (a : Assembly) → Well a → (n : ℕ) (line : List ℕ) → Passes Well (line_taken a n line)

@@ -1,5 +1,5 @@
 -- Lines taken in order: the labels and the instructions so far.
-use Rattle.std.specs.Prelude.{ℕ, ◌+◌, cond, not, ◌&&◌, List, [], ◌∷◌, ◌++◌, length, is_some, Some, None, Ok, Err, Option, Result, nat_lt}
+use Rattle.std.specs.Prelude.{ℕ, cond, not, ◌&&◌, List, [], ◌∷◌, ◌++◌, length, is_some, Some, None, Ok, Err, Option, Result, nat_lt}
 use Rattle.bounded.specs.Listed.{listed}
 use Rattle.cell.specs.declared.address.Address.{Address}
 use Rattle.sheet.specs.declared.assembly.Assembly.{Assembly as Table}
@@ -13,7 +13,7 @@ use Rattle.lexer.specs.Checks.{◌>>=◌}
 use Rattle.lexer.specs.Kinds.{Kind, kind, blank, comment, label, instruction, printable}
 use Rattle.lexer.specs.Bytes.{same}
 use Rattle.lexer.specs.Names.{label_name}
-use Rattle.sheet.specs.Operands.{instruction as read-instruction}
+use Rattle.sheet.specs.Operands.{instruction as read_instruction}
 
 -- the labels and the instructions of the lines so far, each in order
 pub record Assembly : Type 0 where
@@ -53,7 +53,7 @@ abbrev pub by_kind : Assembly → ℕ → Kind → Result Assembly Fault
 by_kind a n blank = Ok a
 by_kind a n comment = Ok a
 by_kind a n (label name) = defined a (label_name name)
-by_kind a n (instruction text) = read-instruction text >>= added a n
+by_kind a n (instruction text) = read_instruction text >>= added a n
 
 -- one line, of number n
 abbrev pub line_taken : Assembly → ℕ → List ℕ → Result Assembly Fault

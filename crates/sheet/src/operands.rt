@@ -1,6 +1,6 @@
 //! Operands, each by its form.
 ghost use Rattle.std.specs.Prelude.{◌≡◌, ◌<◌};
-ghost use Rattle.sheet.specs.Operands.{lettered as letters-read, register as registers-read, global as globals-read, label as labels-read, registers as three-read};
+ghost use Rattle.sheet.specs.Operands.{lettered as letters_read, register as registers_read, global as globals_read, label as labels_read, registers as three_read};
 
 use code::fits::{GLOBALS, REGISTERS};
 use code::global::Global;
@@ -12,7 +12,7 @@ use lexer::number::magnitude;
 
 /// A letter, and then a number below a limit.
 fn lettered(letter: u8, limit: u8, word: &[u8]) -> Result<u8, Fault>
-    ensures { result ≡ letters-read letter limit word.now }
+    ensures { result ≡ letters_read letter limit word.now }
 {
     match word {
         [first, digits @ ..] => {
@@ -33,27 +33,27 @@ fn lettered(letter: u8, limit: u8, word: &[u8]) -> Result<u8, Fault>
 }
 
 pub fn register(word: &[u8]) -> Result<Register, Fault>
-    ensures { result ≡ registers-read word.now }
+    ensures { result ≡ registers_read word.now }
 {
     let index = lettered(b'r', REGISTERS, word)?;
     Ok(Register(index))
 }
 
 pub fn global(word: &[u8]) -> Result<Global, Fault>
-    ensures { result ≡ globals-read word.now }
+    ensures { result ≡ globals_read word.now }
 {
     let index = lettered(b'g', GLOBALS, word)?;
     Ok(Global(index))
 }
 
 pub fn label(word: &[u8]) -> Result<LabelName, Fault>
-    ensures { result ≡ labels-read word.now }
+    ensures { result ≡ labels_read word.now }
 {
     name(word).ok_or(Fault::BadOperand)
 }
 
 pub fn registers(a: &[u8], b: &[u8], c: &[u8]) -> Result<(Register, Register, Register), Fault>
-    ensures { result ≡ three-read a.now b.now c.now }
+    ensures { result ≡ three_read a.now b.now c.now }
 {
     Ok((register(a)?, register(b)?, register(c)?))
 }

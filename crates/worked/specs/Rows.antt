@@ -1,5 +1,5 @@
 -- A worked sheet: its text, the limits of its run, and the figures that the run comes to.
-use Rattle.std.specs.Prelude.{◌≡◌, ℕ, cond, List, [], ◌∷◌, map, replicate, pos, Some, None, Ok, Err, codes, Option, Result, ◌==◌}
+use Rattle.std.specs.Prelude.{◌≡◌, ℕ, cond, List, map, replicate, pos, Some, None, Ok, Err, codes, Option, Result, ◌==◌}
 use Prim.Native.String.{String}
 use Rattle.std.specs.Option.{option_map}
 use Rattle.code.specs.declared.instruction.Instruction.{Instruction}

@@ -6,7 +6,7 @@ ghost use Rattle.cell.specs.declared.value.Value.TheVariants.{Empty};
 ghost use Rattle.cell.specs.declared.wind.Wind.{Wind};
 ghost use Rattle.machine.specs.declared.name_move.NameMove.TheVariants.{Keep as KeepNames, SaveMany, SaveOnce, Use, Forget};
 ghost use Rattle.machine.specs.declared.wind_move.WindMove.TheVariants.{Stay, Open, Reenter, Leave};
-ghost use Rattle.engine.specs.Parts.{parts_of, with_register, with_global, turned, up as counted-on};
+ghost use Rattle.engine.specs.Parts.{parts_of, with_register, with_global, turned, up as counted_on};
 ghost use Rattle.engine.specs.Acting.{pushing, popping, entering, leaving, frame_room, name_room};
 
 use crate::engine::Engine;
@@ -23,7 +23,7 @@ use store::typed;
 
 /// A count that goes up by one.
 pub(crate) fn up(count: u32) -> u32
-    ensures { result ≡ counted-on count }
+    ensures { result ≡ counted_on count }
 {
     count.wrapping_add(1)
 }

@@ -1,6 +1,6 @@
 use Rattle.std.proofs.Common.{◌≡◌, ℕ, ◌+◌, ◌-◌, ◌^◌, ◌<◌, List, length, vec_items, sym, ap, subst, arith, length-set}
 use Rattle.linked.specs.declared.node.Node.{Node}
-use Rattle.linked.specs.Chains.{nodeAt, with_top}
+use Rattle.linked.specs.Chains.{node_at, with_top}
 use Rattle.linked.specs.Moves.{HoldsSomehow, Moved, recounted}
 use Rattle.linked.proofs.Moving.{top_within, ends-within, ends-rest, read_node, pass_read, rid_read, left_le}
 use Rattle.linked.proofs.nodes.drop_top.Goals as goal
@@ -10,8 +10,8 @@ module _ (ns : List Node) (f t n : ℕ) (H : HoldsSomehow ns f t n) (some : 0 < 
   in_nodes = let a = top_within ns H.size H.depth f t n H.others H.holds some in let b = H.holds.room in omega arith
 
   -- the node below the top, if there is one
-  below : 1 < n → (nodeAt ns t).link < length ns
-  below l = let a = ends-within ns H.size (nodeAt ns t).link (n - 1) (omega arith) (ends-rest ns H.size t n some H.holds.ends) in let b = H.holds.room in omega arith
+  below : 1 < n → (node_at ns t).link < length ns
+  below l = let a = ends-within ns H.size (node_at ns t).link (n - 1) (omega arith) (ends-rest ns H.size t n some H.holds.ends) in let b = H.holds.room in omega arith
 
 pub index-node-requires : goal.index-node-requires
 index-node-requires c = let v = c.args.nodes.now in let a = in_nodes (vec_items v) c.args.free c.args.top c.args.len c.requires.held c.requires.some in let b = v.ok.0 in omega arith
@@ -28,13 +28,13 @@ share-requires c l =
     let t : ℕ = c.args.top in
     let r = c.index-node.result.now in
     let a = in_nodes ns c.args.free t c.args.len c.requires.held c.requires.some in
-    let is : r ≡ nodeAt ns t = read_node ns t r a c.index-node.ensures in
+    let is : r ≡ node_at ns t = read_node ns t r a c.index-node.ensures in
     let long = length-set ns t (recounted r (r.holders - 1)) in
     let more : 1 < c.args.len = omega arith in
-    let link : r.link ≡ (nodeAt ns t).link = ap (λ (y : Node). y.link) is in
+    let link : r.link ≡ (node_at ns t).link = ap (λ (y : Node). y.link) is in
     let b = below ns c.args.free t c.args.len c.requires.held c.requires.some more in
     let d = left_le ns t r.link r a is in
-    let e : (nodeAt ns r.link).holders + 1 < 2 ^ 32 = subst (λ k. (nodeAt ns k).holders + 1 < 2 ^ 32) (sym link) (c.requires.small more) in
+    let e : (node_at ns r.link).holders + 1 < 2 ^ 32 = subst (λ k. (node_at ns k).holders + 1 < 2 ^ 32) (sym link) (c.requires.small more) in
     (omega arith, omega arith)
 
 pub returns-then-node-gt1 : goal.returns-then-node-gt1
@@ -42,8 +42,8 @@ returns-then-node-gt1 c p depth R H =
     let ns = vec_items c.args.nodes.now in
     let t : ℕ = c.args.top in
     let r = c.index-node.result.now in
-    let is : r ≡ nodeAt ns t = read_node ns t r (in_nodes ns c.args.free t c.args.len c.requires.held c.requires.some) c.index-node.ensures in
-    subst (λ ms. Moved ns ms p depth c.args.free (with_top (nodeAt ns t).link R) (with_top (nodeAt ns t).link R)) (sym c.share.ensures)
+    let is : r ≡ node_at ns t = read_node ns t r (in_nodes ns c.args.free t c.args.len c.requires.held c.requires.some) c.index-node.ensures in
+    subst (λ ms. Moved ns ms p depth c.args.free (with_top (node_at ns t).link R) (with_top (node_at ns t).link R)) (sym c.share.ensures)
     (pass_read ns p depth c.args.free t c.args.len R H c.requires.some r is c.if-node-gt1.true)
 
 pub returns : goal.returns
@@ -51,5 +51,5 @@ returns c p depth R H =
     let ns = vec_items c.args.nodes.now in
     let t : ℕ = c.args.top in
     let r = c.index-node.result.now in
-    let is : r ≡ nodeAt ns t = read_node ns t r (in_nodes ns c.args.free t c.args.len c.requires.held c.requires.some) c.index-node.ensures in
+    let is : r ≡ node_at ns t = read_node ns t r (in_nodes ns c.args.free t c.args.len c.requires.held c.requires.some) c.index-node.ensures in
     rid_read ns p depth c.args.free t c.args.len R H c.requires.some r is c.if-node-gt1.false

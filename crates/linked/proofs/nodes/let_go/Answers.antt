@@ -2,7 +2,7 @@ use Rattle.std.proofs.Common.{◌≡◌, ℕ, ◌-◌, ◌<◌, ◌≤◌, List,
 use Rattle.bottom.specs.Rows.{bit}
 use Rattle.bottom.proofs.Rows.{bit_other}
 use Rattle.linked.specs.declared.node.Node.{Node}
-use Rattle.linked.specs.Chains.{nodeAt, with_top, Ends}
+use Rattle.linked.specs.Chains.{node_at, with_top, Ends}
 use Rattle.linked.specs.Moves.{Holds, HoldsSomehow, Moved, recounted}
 use Rattle.linked.proofs.Moving.{top_within, read_node, moved_none, moved_both, moved_for, leave_read, rid_read, rid_read_holds}
 use Rattle.linked.proofs.nodes.let_go.Goals as goal
@@ -20,7 +20,7 @@ module _ (ns ms : List Node) (f t n g u m : ℕ) (H : HoldsSomehow ns f t n) (go
       omega arith
 
   module _ (r : Node) (read : r ≡ get_or ms u r) where
-    is : r ≡ nodeAt ms u
+    is : r ≡ node_at ms u
     is = read_node ms u r in_nodes read
 
     left_here : 1 < r.holders → (p depth : ℕ) (R : ℕ → ℕ) → Holds ns p depth f t n R → Moved ns (set ms u (recounted r (r.holders - 1))) p depth g R R
@@ -31,7 +31,7 @@ module _ (ns ms : List Node) (f t n g u m : ℕ) (H : HoldsSomehow ns f t n) (go
     next : r.holders ≤ 1 → Going ns (set ms u (record { cell = r.cell; link = g; holders = 0 })) f t n u r.link (m - 1)
     next one p depth R h =
         let now = going p depth R h in
-        let to : with_top (nodeAt ms u).link R ≡ with_top r.link R = ap (λ (y : Node). with_top y.link R) (sym is) in
+        let to : with_top (node_at ms u).link R ≡ with_top r.link R = ap (λ (y : Node). with_top y.link R) (sym is) in
         let step = subst (λ Q. Moved ms (set ms u (record { cell = r.cell; link = g; holders = 0 })) p depth u Q Q) to (rid_read ms p depth g u m R now.1 some r is one) in (
           moved_both ns ms _ p depth g u (with_top u R) (with_top r.link R) R now.0 (moved_for ms _ p depth u (with_top r.link R) (with_top r.link R) (with_top r.link R) R (λ k l. refl) (λ k l. (let x : 0 < with_top r.link R k = omega arith in x)) step),
           rid_read_holds ms p depth g u m R now.1 some r is one,

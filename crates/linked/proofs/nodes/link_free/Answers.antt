@@ -2,7 +2,7 @@ use Rattle.std.proofs.Common.{◌≡◌, ℕ, ◌+◌, List, set, vec_items, sym
 use Rattle.std.proofs.lemmas.List.{drop-set-lt}
 use Rattle.std.proofs.lemmas.Bool.{cases_eq}
 use Rattle.linked.specs.declared.node.Node.{Node}
-use Rattle.linked.specs.Chains.{nodeAt, no_node}
+use Rattle.linked.specs.Chains.{node_at, no_node}
 use Rattle.linked.proofs.nodes.link_free.Goals as goal
 
 pub loop-i-init : goal.loop-i-init
@@ -19,10 +19,10 @@ loop-i-preserved c =
     let t = c.loop-i-test.true in (
       length-set ns i x ∙ inv.0,
       (λ k l. ⊎_elim
-          (λ (e : k ≡ i). subst (λ j. ((nodeAt (set ns i x) j).link ≡ j + 1) × ((nodeAt (set ns i x) j).holders ≡ 0)) (sym e)
-          (let h : nodeAt (set ns i x) i ≡ x = get_or-set_same ns i x no_node (omega arith) in (ap (λ (y : Node). y.link) h, ap (λ (y : Node). y.holders) h)))
+          (λ (e : k ≡ i). subst (λ j. ((node_at (set ns i x) j).link ≡ j + 1) × ((node_at (set ns i x) j).holders ≡ 0)) (sym e)
+          (let h : node_at (set ns i x) i ≡ x = get_or-set_same ns i x no_node (omega arith) in (ap (λ (y : Node). y.link) h, ap (λ (y : Node). y.holders) h)))
           (λ (ne : k ≡ i → ⊥).
-          let h : nodeAt (set ns i x) k ≡ nodeAt ns k = get_or-set_other ns i k x no_node ne in
+          let h : node_at (set ns i x) k ≡ node_at ns k = get_or-set_other ns i k x no_node ne in
           let old = inv.1 k (omega arith) in
           (ap (λ (y : Node). y.link) h ∙ old.0, ap (λ (y : Node). y.holders) h ∙ old.1))
           (cases_eq k i)),

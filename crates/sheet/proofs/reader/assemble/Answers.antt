@@ -1,5 +1,5 @@
-use Rattle.std.proofs.Common.{◌≡◌, ◌+◌, [], ◌∷◌, length, Err, sym, ap, ◌∙◌, arith}
-use Rattle.sheet.specs.Assembly.{empty, assembly_of}
+use Rattle.std.proofs.Common.{length, Err, sym, ap, ◌∙◌, arith}
+use Rattle.sheet.specs.Assembly.{assembly_of}
 use Rattle.sheet.specs.Reading.{assembled}
 use Rattle.lexer.specs.Split.{lines, lines_left}
 use Rattle.sheet.proofs.Assembling.{uncons_some, uncons_none, line_more, line-stop, few_lines}

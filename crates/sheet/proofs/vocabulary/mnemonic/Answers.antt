@@ -1,8 +1,7 @@
-use Rattle.std.proofs.Common.{length, sym, refl, ap, ◌∙◌}
+use Rattle.std.proofs.Common.{sym, refl, ap, ◌∙◌}
 use Rattle.std.proofs.lemmas.List.{at_drop_all}
 use Rattle.lexer.specs.Bytes.{same}
 use Rattle.sheet.specs.Words.{spelled, vocabulary}
-use Rattle.sheet.specs.declared.mnemonic.Mnemonic.TheVariants.{Stop}
 use Rattle.sheet.proofs.Lookups.{spelled_more, spelled-here}
 use Rattle.sheet.proofs.vocabulary.mnemonic.Goals as goal
 

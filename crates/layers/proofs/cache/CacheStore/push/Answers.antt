@@ -1,4 +1,4 @@
-use Rattle.std.proofs.Common.{◌≡◌, sym, refl, ap, ◌∙◌, arith}
+use Rattle.std.proofs.Common.{◌≡◌, sym, refl, arith}
 use Rattle.layers.specs.Layers.{kept_count}
 use Rattle.layers.proofs.Stacks.{topped_full, topped_more, topped_moved}
 use Rattle.layers.proofs.cache.CacheStore.push.Goals as goal

@@ -5,7 +5,7 @@ use Rattle.std.proofs.lemmas.Option.{slice_get_past}
 use Rattle.linked.specs.declared.node.Node.{Node}
 use Rattle.linked.specs.declared.linked.Linked.{Linked}
 use Rattle.store.specs.declared.refusal.Refusal.TheVariants.{NoIndex}
-use Rattle.linked.specs.Chains.{nodeAt, cells, ends}
+use Rattle.linked.specs.Chains.{node_at, cells, ends}
 use Rattle.linked.proofs.Changes.{ends-from, ends_to}
 use Rattle.linked.proofs.Facts.{length-cells, needed_small, cell_down, cell_top}
 use Rattle.linked.specs.Meant.{size}
@@ -44,13 +44,13 @@ pub index-requires-2 : goal.index-requires-2
 index-requires-2 c = let s = c.args.self.now in within_len s c.loop-above.at (at_in s c.loop-above.at c.loop-above.above c.loop-above.invariant.0)
 
 -- one node further down
-down : (s : Linked) (t n index : ℕ) (r : Node) → r ≡ nodeAt (nodes_of s) t → index < n → ends (nodes_of s) (size s) t (suc n) ≡ true
+down : (s : Linked) (t n index : ℕ) (r : Node) → r ≡ node_at (nodes_of s) t → index < n → ends (nodes_of s) (size s) t (suc n) ≡ true
     → (ends (nodes_of s) (size s) r.link (suc (n - 1)) ≡ true) × (slice_get (cells (nodes_of s) r.link (suc (n - 1))) index ≡ slice_get (cells (nodes_of s) t (suc n)) index)
 down s t n index r is l e =
     let m : n ≡ suc (n - 1) = omega arith in
     subst (λ (y : Node). (ends (nodes_of s) (size s) y.link (suc (n - 1)) ≡ true) × (slice_get (cells (nodes_of s) y.link (suc (n - 1))) index ≡ slice_get (cells (nodes_of s) t (suc n)) index)) (sym is)
-    (subst (λ k. (ends (nodes_of s) (size s) (nodeAt (nodes_of s) t).link k ≡ true) × (slice_get (cells (nodes_of s) (nodeAt (nodes_of s) t).link k) index ≡ slice_get (cells (nodes_of s) t (suc n)) index)) m
-    (ends_to (nodes_of s) (size s) n (nodeAt (nodes_of s) t).link (ends-from (nodes_of s) (size s) (suc n) t e).1, sym (cell_down (nodes_of s) t n index l)))
+    (subst (λ k. (ends (nodes_of s) (size s) (node_at (nodes_of s) t).link k ≡ true) × (slice_get (cells (nodes_of s) (node_at (nodes_of s) t).link k) index ≡ slice_get (cells (nodes_of s) t (suc n)) index)) m
+    (ends_to (nodes_of s) (size s) n (node_at (nodes_of s) t).link (ends-from (nodes_of s) (size s) (suc n) t e).1, sym (cell_down (nodes_of s) t n index l)))
 
 pub loop-above-preserved : goal.loop-above-preserved
 loop-above-preserved c =
@@ -58,7 +58,7 @@ loop-above-preserved c =
     let t : ℕ = c.loop-above.at in
     let n : ℕ = c.loop-above.above in
     let r = c.index.result.now in
-    let is : r ≡ nodeAt (nodes_of s) t = read_node (nodes_of s) t r (in_nodes s t (at_in s t n c.loop-above.invariant.0)) c.index.ensures in
+    let is : r ≡ node_at (nodes_of s) t = read_node (nodes_of s) t r (in_nodes s t (at_in s t n c.loop-above.invariant.0)) c.index.ensures in
     let h = c.loop-above-test.true in
     let d = down s t n c.args.index r is h c.loop-above.invariant.0 in
     (d.0, omega arith, d.1 ∙ c.loop-above.invariant.2)
@@ -69,7 +69,7 @@ returns c =
     let t : ℕ = c.loop-above.at in
     let n : ℕ = c.loop-above.above in
     let r = c.index-2.result.now in
-    let is : r ≡ nodeAt (nodes_of s) t = read_node (nodes_of s) t r (in_nodes s t (at_in s t n c.loop-above.invariant.0)) c.index-2.ensures in
+    let is : r ≡ node_at (nodes_of s) t = read_node (nodes_of s) t r (in_nodes s t (at_in s t n c.loop-above.invariant.0)) c.index-2.ensures in
     let h = c.loop-above-test.false in
     let g = c.loop-above.invariant.1 in
     let e : n ≡ c.args.index = omega arith in

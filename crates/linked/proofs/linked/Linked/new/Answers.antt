@@ -6,7 +6,7 @@ use Rattle.bottom.specs.Tables.{listed}
 use Rattle.bottom.proofs.Opened.{range_small, limit_is, accepted_yes, refused_range, refused_memory, opened_as, opened-not, split_as}
 use Rattle.linked.specs.declared.node.Node.{Node}
 use Rattle.std.proofs.lemmas.Bool.{cond-true, cond-false}
-use Rattle.linked.specs.Chains.{nodeAt}
+use Rattle.linked.specs.Chains.{node_at}
 use Rattle.linked.specs.Meant.{read_row}
 use Rattle.linked.proofs.Facts.{new_facts, needed_small}
 use Rattle.linked.proofs.Stores.{Owed, owed}
@@ -15,7 +15,7 @@ use Rattle.linked.proofs.linked.Linked.new.Goals.{else-are_in_range-via-then-are
 
 -- a store with the limits that were asked for
 module _ (memory nodes : List Node) (t : Table) (depth held size : ℕ) (range : in_range depth held ≡ true) (need-is : size ≡ cells_needed depth held) (room : size ≤ length memory)
-    (linked : (k : ℕ) → k < size → ((nodeAt nodes k).link ≡ k + 1) × ((nodeAt nodes k).holders ≡ 0)) (beyond : drop size nodes ≡ drop size memory) (long : length nodes ≡ length memory)
+    (linked : (k : ℕ) → k < size → ((node_at nodes k).link ≡ k + 1) × ((node_at nodes k).holders ≡ 0)) (beyond : drop size nodes ≡ drop size memory) (long : length nodes ≡ length memory)
     (none : listed t ≡ []) (limit : t.limit ≡ min held 64) where
   held_is : t.limit ≡ held
   held_is = limit_is held t.limit (range_small depth held range).few limit

@@ -1,4 +1,4 @@
-use Rattle.std.proofs.Common.{◌≡◌, ◌+◌, ◌-◌, Ok, sym, ap, ◌∙◌, arith}
+use Rattle.std.proofs.Common.{◌≡◌, ◌+◌, Ok, sym, ap, ◌∙◌, arith}
 use Rattle.copied.specs.Cells.{cell_at}
 use Rattle.copied.proofs.Stores.{words_of}
 use Rattle.std.specs.Option.{ok_or}

@@ -1,6 +1,6 @@
-use Rattle.std.proofs.Common.{◌-◌, Err, sym, refl, ap, ◌∙◌}
+use Rattle.std.proofs.Common.{Err, sym, refl, ap, ◌∙◌}
 use Rattle.store.specs.declared.refusal.Refusal.TheVariants.{NotHeld}
-use Rattle.bottom.specs.Tables.{listed, spare}
+use Rattle.bottom.specs.Tables.{listed}
 use Rattle.bottom.proofs.Rows.{without_none}
 use Rattle.copied.specs.Parts.{read_row}
 use Rattle.copied.proofs.Stores.{words_of}

@@ -1,7 +1,7 @@
-use Rattle.std.proofs.Common.{◌≡◌, ℕ, ◌-◌, ◌*◌, length, Err, vec_len, refl, ap, ◌∙◌, arith, rules}
+use Rattle.std.proofs.Common.{◌≡◌, ℕ, ◌*◌, length, Err, vec_len, refl, ap, ◌∙◌, arith, rules}
 use lib.Seq.{paste}
 use Rattle.std.proofs.lemmas.List.{with_items_is}
-use Rattle.bottom.specs.Tables.{listed, spare}
+use Rattle.bottom.specs.Tables.{listed}
 use Rattle.cell.specs.Filled.{width}
 use Rattle.copied.proofs.Stores.{words_of}
 use Rattle.std.proofs.lemmas.Result.{err_from_is_err_and}

@@ -1,4 +1,4 @@
-use Rattle.std.proofs.Common.{◌+◌, ◌-◌, Some, None, Ok, sym, ap, ◌∙◌, arith}
+use Rattle.std.proofs.Common.{◌+◌, Some, None, Ok, sym, ap, ◌∙◌, arith}
 use Rattle.bottom.specs.Tables.{listed}
 use Rattle.copied.specs.Cells.{cell_at, cells}
 use Rattle.copied.specs.Parts.{read_row, part_start}

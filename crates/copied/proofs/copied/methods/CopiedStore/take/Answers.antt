@@ -1,8 +1,8 @@
-use Rattle.std.proofs.Common.{◌≡◌, ◌-◌, ◌*◌, length, drop, Ok, Err, vec_len, sym, refl, ap, ◌∙◌, arith, rules}
+use Rattle.std.proofs.Common.{◌≡◌, ◌*◌, length, drop, Ok, Err, vec_len, sym, refl, ap, ◌∙◌, arith, rules}
 use lib.Seq.{paste}
 use Rattle.std.proofs.lemmas.List.{with_items_is}
 use Rattle.store.specs.declared.refusal.Refusal.TheVariants.{NotHeld}
-use Rattle.bottom.specs.Tables.{listed, spare}
+use Rattle.bottom.specs.Tables.{listed}
 use Rattle.bottom.proofs.Rows.{without_none}
 use Rattle.cell.specs.Filled.{width}
 use Rattle.copied.specs.Parts.{read_row}
