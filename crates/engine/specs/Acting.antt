@@ -1,9 +1,7 @@
 -- Acts carried out on the parts of an engine, in the order in which its code does it.
-use Rattle.std.specs.Prelude.{ℕ, ◌+◌, min, Bool, true, false, cond, List, [], ◌∷◌, ◌++◌, reverse, length, ℤ, Some, None, Ok, Err, Option, Result, nat_le, nat_lt}
+use Rattle.std.specs.Prelude.{ℕ, ◌+◌, min, Bool, true, false, cond, [], ◌∷◌, ◌++◌, reverse, length, ℤ, Some, None, Ok, Err, Option, Result, nat_le, nat_lt}
 use Rattle.cell.specs.declared.address.Address.{Address}
 use Rattle.cell.specs.declared.name.Name.{Name}
-use Rattle.cell.specs.declared.value.Value.{Value}
-use Rattle.cell.specs.declared.value.Value.TheVariants.{Continuation}
 use Rattle.cell.specs.declared.frame.Frame.{Frame}
 use Rattle.cell.specs.declared.wind.Wind.{Wind}
 use Rattle.store.specs.declared.frame_refusal.FrameRefusal.{FrameRefusal}
@@ -22,15 +20,12 @@ use Rattle.machine.specs.declared.wind_move.WindMove.{WindMove}
 use Rattle.machine.specs.declared.wind_move.WindMove.TheVariants.{Stay, Open, Reenter, Leave}
 use Rattle.machine.specs.declared.name_move.NameMove.{NameMove}
 use Rattle.machine.specs.declared.name_move.NameMove.TheVariants.{Keep as KeepNames, SaveMany, SaveOnce, Use, Forget}
-use Rattle.machine.specs.declared.mode.Mode.{Mode}
 use Rattle.machine.specs.Acts.{Plan}
 use Rattle.machine.specs.Admission.{growth}
 use Rattle.machine.specs.Apply.{marked_in}
 use Rattle.machine.specs.Named.{without, changed_all}
 use Rattle.machine.specs.Opening.{most_held}
 use Rattle.machine.specs.StoreEnds.{frame_end, wind_end}
-use Rattle.held.specs.declared.held_row.HeldRow.{HeldRow}
-use Rattle.held.specs.declared.save_refusal.SaveRefusal.{SaveRefusal}
 use Rattle.held.specs.Rows.{row_name, for_many}
 use Rattle.held.specs.Saves.{BothSaved, saved_both}
 use Rattle.engine.specs.declared.step.Step.{Step}

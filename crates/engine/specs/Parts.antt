@@ -1,5 +1,5 @@
 -- What an engine is, part by part: what its two stores mean, read as frames and as winds, and its own words.
-use Rattle.std.specs.Prelude.{ℕ, ◌+◌, ◌%◌, ◌^◌, min, Bool, true, false, cond, List, [], ◌∷◌, reverse, slice_set}
+use Rattle.std.specs.Prelude.{ℕ, ◌+◌, ◌%◌, ◌^◌, min, Bool, true, false, cond, List, reverse, slice_set}
 use Rattle.cell.specs.declared.address.Address.{Address}
 use Rattle.cell.specs.declared.cell.Cell.{Cell}
 use Rattle.cell.specs.declared.value.Value.{Value}

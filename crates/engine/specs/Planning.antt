@@ -12,10 +12,8 @@ use Rattle.cell.specs.declared.wind.Wind.{Wind}
 use Rattle.store.specs.declared.refusal.Refusal.{Refusal}
 use Rattle.store.specs.Meaning.{top, saved_cell_in}
 use Rattle.store.specs.Typed.{refused_as, wind_refusal}
-use Rattle.code.specs.declared.register.Register.{Register}
 use Rattle.code.specs.declared.instruction.Instruction.{Instruction}
 use Rattle.code.specs.declared.instruction.Instruction.TheVariants.{Set, Proc, Load, Store as StoreTo, Add, Sub, Less, Jump, Zero, Push as PushFrom, Pop as PopTo, Print, Call, Tail, CallCc, CallOnce, Forget as ForgetIn, DynamicWind, Return, Stop}
-use Rattle.machine.specs.declared.end.End.{End}
 use Rattle.machine.specs.declared.end.End.TheVariants.{WrongFrame, NotHeld, OffTheEnd}
 use Rattle.machine.specs.declared.next.Next.TheVariants.{Halt}
 use Rattle.machine.specs.declared.write.Write.TheVariants.{Register as ToRegister}

@@ -68,15 +68,15 @@ same_step l m code s t u b c e f p q =
     subst P q (subst Q p (alike l m code s))
 
 pub same_end : SameEnd
-same_end l m code s e no-limit p =
+same_end l m code s e no_limit p =
     let Q : Outcome → Type 0 = λ o. Alike o (step m code s) in
     go (step m code s) (subst Q p (alike l m code s))
   where
     go : (o : Outcome) → Alike (refused e) o → o ≡ refused e
-    go (went t c f) h = absurd (no-limit h)
+    go (went t c f) h = absurd (no_limit h)
     go (finished t) h = absurd h
     go (refused d) (inl h) = ap refused (sym h)
-    go (refused d) (inr h) = absurd (no-limit h.0)
+    go (refused d) (inr h) = absurd (no_limit h.0)
 
 pub same_finish : SameFinish
 same_finish l m code s t p =

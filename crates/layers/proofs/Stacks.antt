@@ -70,9 +70,9 @@ module _ {A : Type 0} where
     pub topped_cell : (p k : ℕ) → p ≡ length m.current + k → k < kept_count count m → (d : A) → slice_get (topped table count m).current p ≡ Some (get_or table k d)
     topped_cell p k e h d =
         let fits : kept_count count m ≤ length table = omega arith in
-        let in-part : k < length (take (kept_count count m) table) = rw length-take-le h in
+        let in_part : k < length (take (kept_count count m) table) = rw length-take-le h in
         nth_right m.current (take (kept_count count m) table) p k e
-        ∙ slice_get-get_or (take (kept_count count m) table) k d in-part ∙ ap Some (get_or-take (kept_count count m) table k d h)
+        ∙ slice_get-get_or (take (kept_count count m) table) k d in_part ∙ ap Some (get_or-take (kept_count count m) table k d h)
 
     pub topped_past : (p : ℕ) → length m.current + kept_count count m ≤ p → slice_get (topped table count m).current p ≡ None
     topped_past p h = slice_get_past (topped table count m).current p (omega (arith, topped-length))

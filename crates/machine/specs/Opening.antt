@@ -32,8 +32,8 @@ most_held = 64
 
 -- whether a store is fit for a run: empty, without names, and with limits that are large enough
 abbrev pub fit : ℕ → Offer → Bool
-fit least-depth o =
-    (o.length == 0) && (o.names == 0 && (nat_le least_held o.held_limit && nat_le least-depth o.depth_limit))
+fit least_depth o =
+    (o.length == 0) && (o.names == 0 && (nat_le least_held o.held_limit && nat_le least_depth o.depth_limit))
 
 -- whether both stores are fit
 abbrev pub both_fit : Offer → Offer → Bool

@@ -55,7 +55,7 @@ module _ (ls : List Label) (ds : List Draft) (is : List Instruction) (k : ℕ) (
   draft_more i js r q size few e =
       let room : ltb (length is) 256 ≡ true = lt-ltb _ _ (omega arith) in
       let added : appended 256 is i ≡ (Ok tt, is ++ (i ∷ [])) = rw room in
-      let js-is : js ≡ is ++ (i ∷ []) = ap (λ p. p.1) (e ∙ added) in (
-        resolved-at ∙ ap (λ r. r >>= λ i. resolved_onto (is ++ (i ∷ [])) ls (drop (k + 1) ds)) (sym q) ∙ ap (λ l. resolved_onto l ls (drop (k + 1) ds)) (sym js-is),
-        ap length js-is ∙ length_push is i ∙ ap (λ n. n + 1) size,
+      let js_is : js ≡ is ++ (i ∷ []) = ap (λ p. p.1) (e ∙ added) in (
+        resolved-at ∙ ap (λ r. r >>= λ i. resolved_onto (is ++ (i ∷ [])) ls (drop (k + 1) ds)) (sym q) ∙ ap (λ l. resolved_onto l ls (drop (k + 1) ds)) (sym js_is),
+        ap length js_is ∙ length_push is i ∙ ap (λ n. n + 1) size,
       )

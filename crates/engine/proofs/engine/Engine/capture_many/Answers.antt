@@ -1,4 +1,4 @@
-use Rattle.std.proofs.Common.{◌≡◌, ap, ◌∙◌}
+use Rattle.std.proofs.Common.{ap, ◌∙◌}
 use Rattle.cell.specs.declared.frame.Frame.TheVariants.{Back}
 use Rattle.cell.specs.declared.value.Value.TheVariants.{Continuation}
 use Rattle.machine.specs.Acts.{moves, writing, framing, naming}

@@ -1,5 +1,4 @@
-use Rattle.std.proofs.Common.{◌≡◌, ap, ◌∙◌}
-use Rattle.cell.specs.declared.name.Name.{Name}
+use Rattle.std.proofs.Common.{ap, ◌∙◌}
 use Rattle.machine.specs.declared.mode.Mode.TheVariants.{Returning}
 use Rattle.machine.specs.declared.wind_move.WindMove.TheVariants.{Stay}
 use Rattle.machine.specs.declared.name_move.NameMove.TheVariants.{Use}

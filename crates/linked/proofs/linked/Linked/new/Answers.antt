@@ -14,17 +14,17 @@ use Rattle.linked.proofs.linked.Linked.new.Goals as goal
 use Rattle.linked.proofs.linked.Linked.new.Goals.{else-are_in_range-via-then-are_in_range+else-size-len, else-are_in_range-via-else-are_in_range}
 
 -- a store with the limits that were asked for
-module _ (memory nodes : List Node) (t : Table) (depth held size : ℕ) (range : in_range depth held ≡ true) (need-is : size ≡ cells_needed depth held) (room : size ≤ length memory)
+module _ (memory nodes : List Node) (t : Table) (depth held size : ℕ) (range : in_range depth held ≡ true) (need_is : size ≡ cells_needed depth held) (room : size ≤ length memory)
     (linked : (k : ℕ) → k < size → ((node_at nodes k).link ≡ k + 1) × ((node_at nodes k).holders ≡ 0)) (beyond : drop size nodes ≡ drop size memory) (long : length nodes ≡ length memory)
     (none : listed t ≡ []) (limit : t.limit ≡ min held 64) where
   held_is : t.limit ≡ held
   held_is = limit_is held t.limit (range_small depth held range).few limit
 
   need_same : cells_needed depth t.limit ≡ size
-  need_same = ap (cells_needed depth) held_is ∙ sym need-is
+  need_same = ap (cells_needed depth) held_is ∙ sym need_is
 
   yes_accepted : accepted (length memory) (cells_needed depth held) depth held ≡ true
-  yes_accepted = accepted_yes (length memory) (cells_needed depth held) depth held range (subst (λ n. n ≤ length memory) need-is room)
+  yes_accepted = accepted_yes (length memory) (cells_needed depth held) depth held range (subst (λ n. n ≤ length memory) need_is room)
 
   new_owed : Owed nodes t depth 0 4294967295 0
   new_owed =
@@ -37,7 +37,7 @@ module _ (memory nodes : List Node) (t : Table) (depth held size : ℕ) (range :
 
   new_memory : (cells_needed depth t.limit, drop (cells_needed depth t.limit) nodes) ≡ split_at (accepted (length memory) (cells_needed depth held) depth held) (cells_needed depth held) memory
   new_memory =
-      let taken : cond (accepted (length memory) (cells_needed depth held) depth held) (cells_needed depth held) 0 ≡ size = cond-true _ _ _ yes_accepted ∙ sym need-is in
+      let taken : cond (accepted (length memory) (cells_needed depth held) depth held) (cells_needed depth held) 0 ≡ size = cond-true _ _ _ yes_accepted ∙ sym need_is in
       split_as memory nodes _ (cells_needed depth held) _ (need_same ∙ sym taken) (ap (λ n. drop n nodes) taken ∙ beyond ∙ sym (ap (λ n. drop n memory) taken))
 
 -- a store with both limits 0
@@ -48,12 +48,12 @@ module _ (memory : List Node) (t : Table) (depth held : ℕ) (none : listed t �
   none_owed : Owed memory t 0 0 4294967295 0
   none_owed = owed memory t 0 0 4294967295 0 0 [] none none_needed (omega arith) (new_facts memory 0 (λ k l. absurd (let z : ⊥ = omega arith in z)) 0 4294967295 (omega arith) (omega arith))
 
-  module _ (b : Bool) (not-accepted : b ≡ false) where
+  module _ (b : Bool) (not_accepted : b ≡ false) where
     none_means : by_rows (read_row memory) [] (listed t) 0 t.limit ≡ opened b depth held
-    none_means = opened-not (read_row memory) (listed t) b depth held t.limit none not-accepted limit
+    none_means = opened-not (read_row memory) (listed t) b depth held t.limit none not_accepted limit
 
     none_memory : (n : ℕ) → (cells_needed 0 t.limit, drop (cells_needed 0 t.limit) memory) ≡ split_at b n memory
-    none_memory n = split_as memory memory b n _ (none_needed ∙ sym (cond-false b n 0 not-accepted)) refl
+    none_memory n = split_as memory memory b n _ (none_needed ∙ sym (cond-false b n 0 not_accepted)) refl
 
 pub link_free-requires : goal.link_free-requires
 link_free-requires c =
