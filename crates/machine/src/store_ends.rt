@@ -8,7 +8,7 @@ use store::frame_refusal::FrameRefusal;
 use store::refusal::Refusal;
 use store::wind_refusal::WindRefusal;
 
-/// A full frame store ends the run with its level; no run meets the others.
+/// A full frame store ends the run with its level; the other refusals have an end too, so that the conversion is total.
 impl From<FrameRefusal> for End {
     ghost from_gives = { λ e y. y ≡ frame_end e };
 
