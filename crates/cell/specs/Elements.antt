@@ -1,7 +1,6 @@
 -- What words an element is written as, and which element a cell is read as.
 use Rattle.std.specs.Prelude.{ℕ, cond, List, [], ◌∷◌, ◌==◌}
-use Rattle.std.specs.Int.{w32}
-use Rattle.std.proofs.Common.{of_z, to_z}
+use Rattle.std.specs.Int.{w32, cast_unsigned, cast_signed}
 use Rattle.cell.specs.Filled.{word}
 use Rattle.cell.specs.declared.address.Address.{Address}
 use Rattle.cell.specs.declared.cell.Cell.{Cell}
@@ -35,7 +34,7 @@ value_kind (Continuation n) = 3
 -- the second word of a value; a number is there in two's complement
 abbrev pub value_payload : Value → ℕ
 value_payload Empty = 0
-value_payload (Number z) = of_z w32 z
+value_payload (Number z) = cast_unsigned w32 z
 value_payload (Procedure p) = p.0
 value_payload (Continuation n) = n.0
 
@@ -61,7 +60,7 @@ wind_words w = w.number.0 ∷ w.before.0 ∷ w.after.0 ∷ []
 -- the value of two words; a kind that no value has reads as none
 abbrev pub value_in : ℕ → ℕ → Value
 value_in kind payload =
-    cond (kind == 1) (Number (to_z w32 payload))
+    cond (kind == 1) (Number (cast_signed w32 payload))
     (cond (kind == 2) (Procedure (address_of payload))
     (cond (kind == 3) (Continuation (name_of payload))
     Empty))

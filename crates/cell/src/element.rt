@@ -11,18 +11,13 @@ pub trait Element: Copy {
     /// The least depth limit of a store that serves for this kind.
     const LEAST_DEPTH: u32;
 
-    /// The same number, for contracts.
-    ghost least: { ℕ };
+    ghost LEAST_DEPTH: { ℕ };
 
     /// The words that an element is written as; zeros fill the cell.
     ghost written: { Self → List ℕ };
 
     /// The element that a cell is read as.
     ghost read: { Cell → Self };
-
-    /// Answers the least depth: generic code knows nothing of the constant's value.
-    fn depth_needed() -> u32
-        ensures { result ≡ least };
 
     /// Writes an element to a cell.
     fn to_cell(self) -> Cell

@@ -12,9 +12,7 @@ impl Cell {
         ensures { result ≡ filled first.now }
     {
         let mut words = [0; WIDTH];
-        for (i, word) in first.iter().enumerate() {
-            words[i] = *word;
-        }
+        words[..first.len()].copy_from_slice(first);
         Cell { words }
     }
 }

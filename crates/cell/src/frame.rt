@@ -5,7 +5,7 @@ use crate::name::Name;
 use crate::value::Value;
 
 /// What waits on the control stack.
-#[derive(Clone, Copy)]
+#[derive(Clone, Copy, PartialEq, Eq, Debug)]
 pub enum Frame {
     /// A value that the sheet pushed.
     Saved(Value),

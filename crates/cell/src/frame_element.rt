@@ -28,15 +28,11 @@ const ENTER: u32 = 8;
 impl Element for Frame {
     const LEAST_DEPTH: u32 = 16;
 
-    ghost least = { 16 };
+    ghost LEAST_DEPTH = { 16 };
 
     ghost written = { frame_words };
 
     ghost read = { frame_in };
-
-    fn depth_needed() -> u32 {
-        Self::LEAST_DEPTH
-    }
 
     fn to_cell(self) -> Cell {
         match self {

@@ -14,37 +14,27 @@ fn frames_are_their_tag_and_what_they_hold(rt: HostRuntime) {
     let name = Name(3);
     let value = Value::Number(-1);
     assert_eq!(rt;
-        Frame::Saved(Value::Empty).to_cell().words,
-        Cell::filled(&[1, 0, 0]).words
+        Frame::Saved(Value::Empty).to_cell(),
+        Cell::filled(&[1, 0, 0])
+    );
+    assert_eq!(rt; Frame::Back(Address(9)).to_cell(), Cell::filled(&[2, 9]));
+    assert_eq!(rt; Frame::Mark(name).to_cell(), Cell::filled(&[3, 3]));
+    assert_eq!(rt;
+        Frame::In(Address(10), Address(11), Address(12)).to_cell(),
+        Cell::filled(&[4, 10, 11, 12])
+    );
+    assert_eq!(rt; Frame::Out.to_cell(), Cell::filled(&[5]));
+    assert_eq!(rt;
+        Frame::Hold(Value::Procedure(Address(7))).to_cell(),
+        Cell::filled(&[6, 2, 7])
     );
     assert_eq!(rt;
-        Frame::Back(Address(9)).to_cell().words,
-        Cell::filled(&[2, 9]).words
+        Frame::Toss(name, value).to_cell(),
+        Cell::filled(&[7, 3, 1, u32::MAX])
     );
     assert_eq!(rt;
-        Frame::Mark(name).to_cell().words,
-        Cell::filled(&[3, 3]).words
-    );
-    assert_eq!(rt;
-        Frame::In(Address(10), Address(11), Address(12))
-            .to_cell()
-            .words,
-        Cell::filled(&[4, 10, 11, 12]).words
-    );
-    assert_eq!(rt; Frame::Out.to_cell().words, Cell::filled(&[5]).words);
-    assert_eq!(rt;
-        Frame::Hold(Value::Procedure(Address(7))).to_cell().words,
-        Cell::filled(&[6, 2, 7]).words
-    );
-    assert_eq!(rt;
-        Frame::Toss(name, value).to_cell().words,
-        Cell::filled(&[7, 3, 1, u32::MAX]).words
-    );
-    assert_eq!(rt;
-        Frame::Enter(name, Value::Continuation(Name(4)))
-            .to_cell()
-            .words,
-        Cell::filled(&[8, 3, 3, 4]).words
+        Frame::Enter(name, Value::Continuation(Name(4))).to_cell(),
+        Cell::filled(&[8, 3, 3, 4])
     );
 }
 
@@ -55,5 +45,5 @@ fn winds_are_their_number_and_two_addresses(rt: HostRuntime) {
         before: Address(10),
         after: Address(20),
     };
-    assert_eq!(rt; wind.to_cell().words, Cell::filled(&[2, 10, 20]).words);
+    assert_eq!(rt; wind.to_cell(), Cell::filled(&[2, 10, 20]));
 }

@@ -11,15 +11,11 @@ use crate::wind_number::WindNumber;
 impl Element for Wind {
     const LEAST_DEPTH: u32 = 4;
 
-    ghost least = { 4 };
+    ghost LEAST_DEPTH = { 4 };
 
     ghost written = { wind_words };
 
     ghost read = { wind_in };
-
-    fn depth_needed() -> u32 {
-        Self::LEAST_DEPTH
-    }
 
     fn to_cell(self) -> Cell {
         Cell::filled(&[self.number.0, self.before.0, self.after.0])

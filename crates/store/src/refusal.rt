@@ -1,7 +1,7 @@
 //! Why a store refuses a call.
 
 /// A refused call; `specs/Meaning.antt` gives each its number.
-#[derive(Clone, Copy)]
+#[derive(Clone, Copy, PartialEq, Eq, Hash, Debug)]
 pub enum Refusal {
     /// The current list is as long as the depth limit; with the level of the layer whose limit it is.
     Full(u32),
