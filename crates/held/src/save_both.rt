@@ -26,11 +26,9 @@ pub fn save_both<F: Store, W: Store>(
     ensures winds_memory { W.fixed winds.new.store ≡ W.fixed winds.old.store }
 {
     let half = save_frames(frames, name)?;
-    match save_winds(half, winds) {
-        Ok(()) => Ok(()),
-        Err(WindSaveRefused { owed, refusal }) => {
-            give_up(owed, frames);
-            Err(SaveRefusal::Winds(refusal))
-        }
-    }
+    let Err(WindSaveRefused { owed, refusal }) = save_winds(half, winds) else {
+        return Ok(());
+    };
+    give_up(owed, frames);
+    Err(SaveRefusal::Winds(refusal))
 }

@@ -37,13 +37,10 @@ pub fn save_winds<W: Store>(
     ensures memory { W.fixed winds.new.store ≡ W.fixed winds.old.store }
 {
     let HalfSave { name } = half;
-    match winds.save(name) {
-        Ok(()) => Ok(()),
-        Err(refusal) => Err(WindSaveRefused {
-            owed: HalfSave { name },
-            refusal,
-        }),
-    }
+    winds.save(name).map_err(|refusal| WindSaveRefused {
+        owed: HalfSave { name },
+        refusal,
+    })
 }
 
 /// Releases the first save. A store that does not hold the name is left as it was.
