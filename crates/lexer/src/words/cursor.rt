@@ -2,6 +2,7 @@
 ghost use Rattle.std.specs.Prelude.{◌≡◌, drop};
 ghost use Rattle.lexer.specs.Split.{words, words_left, word_at, placed, uncons};
 ghost use Rattle.std.specs.Option.{option_map};
+ghost use Rattle.std.specs.Iterator.{YieldsFirstBy, item_count};
 
 use crate::split::split_once;
 use crate::words::{Word, Words};
@@ -39,5 +40,17 @@ impl<'a> Words<'a> {
             Some(word) => word.bytes,
             None => &[],
         }
+    }
+}
+
+impl<'a> Iterator for Words<'a> {
+    type Item = Word<'a>;
+
+    ghost next_gives = { YieldsFirstBy (λ w. (w.start, w.bytes.now)) (λ l. l) };
+
+    ghost remaining = { item_count (λ l. l) };
+
+    fn next(&mut self) -> Option<Word<'a>> {
+        self.next_word()
     }
 }
