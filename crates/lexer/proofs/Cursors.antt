@@ -2,7 +2,7 @@
 use Rattle.std.proofs.Common.{◌≡◌, ℕ, ◌+◌, ◌-◌, ◌<◌, ◌≤◌, suc, List, [], ◌∷◌, length, take, drop, Option, Some, None, Bor, sym, refl, ap, ◌∙◌, subst, arith, length-drop}
 use Rattle.std.proofs.lemmas.List.{drop-drop, take_all}
 use Rattle.std.specs.Option.{option_map, unwrap_or}
-use Rattle.lexer.specs.Split.{lines, split_once, uncons, placed, words_left, words_from, IsWithin}
+use Rattle.lexer.specs.Split.{lines, split_once, placed, words_left, words_from, IsWithin}
 use Rattle.lexer.proofs.Pieces.{split_some, one_word, one_line, rest_after}
 
 -- what two borrowed lists hold
@@ -10,7 +10,7 @@ abbrev pub held : Bor (List ℕ) × Bor (List ℕ) → List ℕ × List ℕ
 held p = (p.0.now, p.1.now)
 
 pub next-line : (xs : List ℕ) (o : Option (Bor (List ℕ) × Bor (List ℕ))) (all : Bor (List ℕ) × Bor (List ℕ)) → 0 < length xs → all.0.now ≡ xs → all.1.now ≡ []
-    → option_map held o ≡ split_once 10 xs → (Some (unwrap_or o all).0.now, lines (unwrap_or o all).1.now) ≡ uncons (lines xs)
+    → option_map held o ≡ split_once 10 xs → lines xs ≡ (unwrap_or o all).0.now ∷ lines (unwrap_or o all).1.now
 next-line [] o all some is none e = absurd (omega arith)
 next-line (b ∷ bs) None all some is none e = rw (is, none, one_line 10 b bs (sym e))
 next-line (b ∷ bs) (Some p) all some is none e = rw (split_some 10 [] (b ∷ bs) p.0.now p.1.now (sym e))
@@ -36,12 +36,12 @@ module _ (xs : List ℕ) (at : ℕ) (next : Option ℕ) (some : next ≡ Some at
   next_start p r e = let after = rest_after 32 (drop at xs) p r (sym (rw rest at e)) in omega (arith, after.0, length-drop at xs, at_most)
 
   pub next_word : (p r : List ℕ) → Some (p, r) ≡ split_once 32 (take (length xs - at) (drop at xs))
-      → (Some (at, p), words_from xs (Some (at + length p + 1))) ≡ uncons (words_from xs next)
+      → words_from xs next ≡ (at, p) ∷ words_from xs (Some (at + length p + 1))
   next_word p r e =
       let cut : split_once 32 (drop at xs) ≡ Some (p, r) = sym (rw rest at e) in
       let on : at + suc (length p) ≡ at + length p + 1 = omega arith in
       let behind : r ≡ drop (at + length p + 1) xs = (rest_after 32 (drop at xs) p r cut).1 ∙ drop-drop (suc (length p)) at xs ∙ ap (λ k. drop k xs) on in
       rw (some, split_some 32 ([] ∷ []) (drop at xs) p r cut, behind)
 
-  pub last_word : None ≡ split_once 32 (take (length xs - at) (drop at xs)) → (Some (at, take (length xs - at) (drop at xs)), []) ≡ uncons (words_from xs next)
+  pub last_word : None ≡ split_once 32 (take (length xs - at) (drop at xs)) → words_from xs next ≡ (at, take (length xs - at) (drop at xs)) ∷ []
   last_word e = rw (some, rest, one_word 32 (drop at xs) (sym (rw rest at e)))

@@ -1,9 +1,9 @@
-use Rattle.std.proofs.Common.{sym, ◌∙◌}
+use Rattle.std.proofs.Common.{length, sym, ap, ◌∙◌, arith}
 use Rattle.lexer.proofs.Cursors.{next_start, next_word, last_word}
-use Rattle.lexer.proofs.words.Words.next_word.Goals as goal
+use Rattle.lexer.proofs.words.WordsIterator.next.Goals as goal
 
-pub returns-in_default : goal.returns-in_default
-returns-in_default c =
+pub returns-in_default-clause-steps : goal.returns-in_default-clause-steps
+returns-in_default-clause-steps c =
     let some = sym c.take.ensures.value ∙ c.in_ok-start.was in
     rw (← c.self.view_is, c.take.ensures.after) (last_word c.self.inside.line.now _ _ some c.self.invariant c.in_default.ensures)
 
@@ -12,7 +12,10 @@ invariant_of-self-2 c =
     let some = sym c.take.ensures.value ∙ c.in_ok-start.was in
     next_start c.self.inside.line.now _ _ some c.self.invariant _ _ c.in-Some.ensures
 
-pub returns : goal.returns
-returns c =
+pub returns-clause-steps : goal.returns-clause-steps
+returns-clause-steps c =
     let some = sym c.take.ensures.value ∙ c.in_ok-start.was in
     rw (← c.self.view_is) (next_word c.self.inside.line.now _ _ some c.self.invariant _ _ c.in-Some.ensures)
+
+pub returns-clause-goes : goal.returns-clause-goes
+returns-clause-goes c = let fewer = ap length (returns-clause-steps c) in record { on = λ f. (tt, tt, omega (arith, fewer)); keeps = tt; rests = λ f. tt }
