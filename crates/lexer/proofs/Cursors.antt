@@ -24,24 +24,27 @@ pub words_left-rest : (us ws : List (ℕ × List ℕ)) → us ≡ drop 1 ws → 
 words_left-rest us [] e = rw e
 words_left-rest us (w ∷ ws) e = rw e
 
--- What is left of the line from the next word on.
-module _ (xs : List ℕ) (at : ℕ) (next : Option ℕ) (some : next ≡ Some at) (within : IsWithin xs next) where
+-- What is left of the line from the next word on; r is what was taken as its index.
+module _ (xs : List ℕ) (at : ℕ) (next r : Option ℕ) (taken : r ≡ next) (was : r ≡ Some at) (within : IsWithin xs next) where
+  some : next ≡ Some at
+  some = sym taken ∙ was
+
   at_most : at ≤ length xs
   at_most = let h : IsWithin xs (Some at) = subst (IsWithin xs) some within in h
 
-  pub rest : take (length xs - at) (drop at xs) ≡ drop at xs
+  rest : take (length xs - at) (drop at xs) ≡ drop at xs
   rest = take_all (length xs - at) (drop at xs) (omega (arith, length-drop at xs))
 
-  pub next_start : (p r : List ℕ) → Some (p, r) ≡ split_once 32 (take (length xs - at) (drop at xs)) → at + length p + 1 ≤ length xs
-  next_start p r e = let after = rest_after 32 (drop at xs) p r (sym (rw rest at e)) in omega (arith, after.0, length-drop at xs, at_most)
+  pub next_start : (p q : List ℕ) → Some (p, q) ≡ split_once 32 (take (length xs - at) (drop at xs)) → at + length p + 1 ≤ length xs
+  next_start p q e = let after = rest_after 32 (drop at xs) p q (sym (rw rest at e)) in omega (arith, after.0, length-drop at xs, at_most)
 
-  pub next_word : (p r : List ℕ) → Some (p, r) ≡ split_once 32 (take (length xs - at) (drop at xs))
+  pub next_word : (p q : List ℕ) → Some (p, q) ≡ split_once 32 (take (length xs - at) (drop at xs))
       → words_from xs next ≡ (at, p) ∷ words_from xs (Some (at + length p + 1))
-  next_word p r e =
-      let cut : split_once 32 (drop at xs) ≡ Some (p, r) = sym (rw rest at e) in
+  next_word p q e =
+      let cut : split_once 32 (drop at xs) ≡ Some (p, q) = sym (rw rest at e) in
       let on : at + suc (length p) ≡ at + length p + 1 = omega arith in
-      let behind : r ≡ drop (at + length p + 1) xs = (rest_after 32 (drop at xs) p r cut).1 ∙ drop-drop (suc (length p)) at xs ∙ ap (λ k. drop k xs) on in
-      rw (some, split_some 32 ([] ∷ []) (drop at xs) p r cut, behind)
+      let behind : q ≡ drop (at + length p + 1) xs = (rest_after 32 (drop at xs) p q cut).1 ∙ drop-drop (suc (length p)) at xs ∙ ap (λ k. drop k xs) on in
+      rw (some, split_some 32 ([] ∷ []) (drop at xs) p q cut, behind)
 
   pub last_word : None ≡ split_once 32 (take (length xs - at) (drop at xs)) → words_from xs next ≡ (at, take (length xs - at) (drop at xs)) ∷ []
   last_word e = rw (some, rest, one_word 32 (drop at xs) (sym (rw rest at e)))
