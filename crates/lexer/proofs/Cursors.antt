@@ -19,11 +19,6 @@ pub words_left-placed : (at : ℕ) (ws : List (List ℕ)) → words_left (placed
 words_left-placed at [] = refl
 words_left-placed at (w ∷ ws) = ap (λ r. w ∷ r) (words_left-placed (at + length w + 1) ws)
 
--- after a call of `next_bytes`
-pub words_left-rest : (us ws : List (ℕ × List ℕ)) → us ≡ drop 1 ws → words_left us ≡ drop 1 (words_left ws)
-words_left-rest us [] e = rw e
-words_left-rest us (w ∷ ws) e = rw e
-
 -- What is left of the line from the next word on; r is what was taken as its index.
 module _ (xs : List ℕ) (at : ℕ) (next r : Option ℕ) (taken : r ≡ next) (was : r ≡ Some at) (within : IsWithin xs next) where
   some : next ≡ Some at
