@@ -10,7 +10,6 @@ use Rattle.cell.specs.declared.frame.Frame.TheVariants.{Saved, Back, Mark, In, O
 use Rattle.cell.specs.declared.wind.Wind.{Wind}
 use Rattle.code.specs.declared.instruction.Instruction.{Instruction}
 use Rattle.machine.specs.declared.act.Act.{Act}
-use Rattle.machine.specs.declared.next.Next.TheVariants.{Go}
 use Rattle.machine.specs.declared.end.End.{End}
 use Rattle.machine.specs.declared.end.End.TheVariants.{WrongFrame, NotHeld}
 use Rattle.machine.specs.declared.frame_move.FrameMove.{FrameMove}
@@ -157,7 +156,7 @@ module _ (l : Limits) (s : State) (k : Reached l s) where
   placed a (rested q p) = placed_rested a p
   placed a (thrown n v m p) = placed_thrown n v a p
 
-  reentry_has_place : (code : List Instruction) (a : Act) (w : Wind) → plan code s ≡ Ok (Go a) → a.winds ≡ Reenter w → length s.winds < l.winds
+  reentry_has_place : (code : List Instruction) (a : Act) (w : Wind) → plan code s ≡ Ok (Some a) → a.winds ≡ Reenter w → length s.winds < l.winds
   reentry_has_place code a w p e =
       let P : WindMove → Type 0 = Placed in
       subst P e (placed a (acts_of (Planned s) (plan code s) a p (planned s k.sound.known code)))

@@ -3,7 +3,6 @@ use Rattle.std.proofs.Common.{◌≡◌, ℕ, zero, suc, ◌+◌, Bool, true, fa
 use Rattle.std.proofs.lemmas.Bool.{leb-true, ltb-true, le-leb, lt-ltb}
 use Rattle.code.specs.declared.instruction.Instruction.{Instruction}
 use Rattle.machine.specs.declared.act.Act.{Act}
-use Rattle.machine.specs.declared.next.Next.TheVariants.{Halt, Go}
 use Rattle.machine.specs.declared.end.End.{End}
 use Rattle.machine.specs.declared.end.End.TheVariants.{StepLimit}
 use Rattle.machine.specs.declared.wind_move.WindMove.{WindMove}
@@ -51,8 +50,8 @@ alike_admit s a (Some d) (Some e) h k = inr (h, k)
 
 alike_settle : (l m : Limits) (s : State) (p : Plan) → Alike (settle l s p) (settle m s p)
 alike_settle l m s (Err e) = inl refl
-alike_settle l m s (Ok Halt) = refl
-alike_settle l m s (Ok (Go a)) = alike_admit s a (refusal l s a) (refusal m s a) (refusal_limit l s a) (refusal_limit m s a)
+alike_settle l m s (Ok None) = refl
+alike_settle l m s (Ok (Some a)) = alike_admit s a (refusal l s a) (refusal m s a) (refusal_limit l s a) (refusal_limit m s a)
 
 pub alike : (l m : Limits) (code : List Instruction) (s : State) → Alike (step l code s) (step m code s)
 alike l m code s = go (leb most_steps s.counts.steps)
@@ -128,8 +127,8 @@ wider_admit l m s a w =
 
 wider_settle : (l m : Limits) (s : State) (p : Plan) → Wider l m → Went (settle l s p) → Went (settle m s p)
 wider_settle l m s (Err e) w h = h
-wider_settle l m s (Ok Halt) w h = h
-wider_settle l m s (Ok (Go a)) w h = wider_admit l m s a w h
+wider_settle l m s (Ok None) w h = h
+wider_settle l m s (Ok (Some a)) w h = wider_admit l m s a w h
 
 wider_went : (l m : Limits) (code : List Instruction) (s : State) → Wider l m → Went (step l code s) → Went (step m code s)
 wider_went l m code s w = go (leb most_steps s.counts.steps)

@@ -15,7 +15,6 @@ use Rattle.code.specs.declared.register.Register.{Register}
 use Rattle.code.specs.declared.instruction.Instruction.{Instruction}
 use Rattle.code.specs.declared.instruction.Instruction.TheVariants.{Set, Proc, Load, Store, Add, Sub, Less, Jump, Zero, Push, Pop, Print, Call, Tail, CallCc, CallOnce, Forget, DynamicWind, Return, Stop}
 use Rattle.machine.specs.declared.act.Act.{Act}
-use Rattle.machine.specs.declared.next.Next.TheVariants.{Halt, Go}
 use Rattle.machine.specs.declared.write.Write.{Write}
 use Rattle.machine.specs.declared.write.Write.TheVariants.{Nothing, Register as ToRegister, Global as ToGlobal}
 use Rattle.machine.specs.declared.frame_move.FrameMove.{FrameMove}
@@ -99,8 +98,8 @@ module _ (s : State) where
 -- P of the act, if there is one; an end is one that a plan can have
 abbrev pub Acts : (Act → Type 0) → Plan → Type 0
 Acts P (Err e) = PlanEnd e
-Acts P (Ok Halt) = Unit {0}
-Acts P (Ok (Go a)) = P a
+Acts P (Ok None) = Unit {0}
+Acts P (Ok (Some a)) = P a
 
 -- a check that fails gives such an end
 abbrev Plain : {A : Type 0} → Checked A → Type 0
@@ -246,8 +245,8 @@ module _ (s : State) (k : NamesMade s) where
 
   acts_map : (P Q : Act → Type 0) → ((a : Act) → P a → Q a) → (p : Plan) → Acts P p → Acts Q p
   acts_map P Q f (Err e) h = h
-  acts_map P Q f (Ok Halt) h = tt
-  acts_map P Q f (Ok (Go a)) h = f a h
+  acts_map P Q f (Ok None) h = tt
+  acts_map P Q f (Ok (Some a)) h = f a h
 
   pub planned : (code : List Instruction) → Acts (Planned s) (plan code s)
   planned code = go s.mode refl k.mode

@@ -11,7 +11,6 @@ use Rattle.cell.specs.declared.frame.Frame.TheVariants.{Mark}
 use Rattle.cell.specs.declared.wind.Wind.{Wind}
 use Rattle.code.specs.declared.instruction.Instruction.{Instruction}
 use Rattle.machine.specs.declared.act.Act.{Act}
-use Rattle.machine.specs.declared.next.Next.TheVariants.{Halt, Go}
 use Rattle.machine.specs.declared.end.End.{End}
 use Rattle.machine.specs.declared.end.End.TheVariants.{NotHeld, StepLimit}
 use Rattle.machine.specs.declared.name_move.NameMove.{NameMove}
@@ -37,19 +36,19 @@ use Rattle.laws.proofs.Steps.{Reached, Good, MadeStep, made-step, good_step, goo
 
 -- a step that went carried out the act that was planned
 went_is : (l : Limits) (code : List Instruction) (s t : State) (b : List ℕ) (es : List Event) → step l code s ≡ went t b es
-    → (a : Act) × (plan code s ≡ Ok (Go a)) × (t ≡ apply s a)
+    → (a : Act) × (plan code s ≡ Ok (Some a)) × (t ≡ apply s a)
 went_is l code s t b es = limit (leb most_steps s.counts.steps)
   where
-    admitted : (a : Act) (o : Option End) → plan code s ≡ Ok (Go a) → admit s a o ≡ went t b es → (a : Act) × (plan code s ≡ Ok (Go a)) × (t ≡ apply s a)
+    admitted : (a : Act) (o : Option End) → plan code s ≡ Ok (Some a) → admit s a o ≡ went t b es → (a : Act) × (plan code s ≡ Ok (Some a)) × (t ≡ apply s a)
     admitted a None p e = (a, p, cc)
     admitted a (Some d) p e = absurd (let z : ◌≡◌ {A = ℕ} 0 1 = cc in omega arith)
 
-    settled : (p : Plan) → plan code s ≡ p → settle l s p ≡ went t b es → (a : Act) × (plan code s ≡ Ok (Go a)) × (t ≡ apply s a)
+    settled : (p : Plan) → plan code s ≡ p → settle l s p ≡ went t b es → (a : Act) × (plan code s ≡ Ok (Some a)) × (t ≡ apply s a)
     settled (Err d) p e = absurd (let z : ◌≡◌ {A = ℕ} 0 1 = cc in omega arith)
-    settled (Ok Halt) p e = absurd (let z : ◌≡◌ {A = ℕ} 0 1 = cc in omega arith)
-    settled (Ok (Go a)) p e = admitted a (refusal l s a) p e
+    settled (Ok None) p e = absurd (let z : ◌≡◌ {A = ℕ} 0 1 = cc in omega arith)
+    settled (Ok (Some a)) p e = admitted a (refusal l s a) p e
 
-    limit : (c : Bool) → cond c (refused StepLimit) (settle l s (plan code s)) ≡ went t b es → (a : Act) × (plan code s ≡ Ok (Go a)) × (t ≡ apply s a)
+    limit : (c : Bool) → cond c (refused StepLimit) (settle l s (plan code s)) ≡ went t b es → (a : Act) × (plan code s ≡ Ok (Some a)) × (t ≡ apply s a)
     limit true e = absurd (let z : ◌≡◌ {A = ℕ} 0 1 = cc in omega arith)
     limit false e = settled (plan code s) refl e
 
@@ -59,7 +58,7 @@ common_self (x ∷ xs) = cond-true (eqb x x) (suc (common xs xs)) 0 (eq-eqb x x 
 
 -- an act that spends a name
 abbrev Spends : Capture → Name → Plan → Type 0
-Spends c n p = (a : Act) × (p ≡ Ok (Go a)) × (a.names ≡ spends c n)
+Spends c n p = (a : Act) × (p ≡ Ok (Some a)) × (a.names ≡ spends c n)
 
 module _ (s : State) (code : List Instruction) (n : Name) (c : Capture) (found : find capture_name s.held n.0 ≡ Some c) where
   spends_mark : (fs : List Frame) → s.mode ≡ Returning → s.frames ≡ Mark n ∷ fs → Spends c n (plan code s)

@@ -7,7 +7,6 @@ use Rattle.cell.specs.declared.wind.Wind.{Wind}
 use Rattle.cell.specs.declared.value.Value.TheVariants.{Number}
 use Rattle.code.specs.declared.instruction.Instruction.{Instruction}
 use Rattle.machine.specs.declared.act.Act.{Act}
-use Rattle.machine.specs.declared.next.Next.TheVariants.{Halt, Go}
 use Rattle.machine.specs.declared.end.End.{End}
 use Rattle.machine.specs.declared.end.End.TheVariants.{StepLimit}
 use Rattle.machine.specs.declared.frame_move.FrameMove.{FrameMove}
@@ -42,24 +41,24 @@ MadeStep P (refused e) = Unit {0}
 -- it is enough to look at the act that is planned and admitted
 pub made-step : (P : State → List Event → Type 0) (l : Limits) (code : List Instruction) (s : State)
     → (s.counts.steps < most_steps → P (halted s) [])
-    → ((a : Act) → s.counts.steps < most_steps → plan code s ≡ Ok (Go a) → refusal l s a ≡ None → P (apply s a) (events s a.winds))
+    → ((a : Act) → s.counts.steps < most_steps → plan code s ≡ Ok (Some a) → refusal l s a ≡ None → P (apply s a) (events s a.winds))
     → MadeStep P (step l code s)
 made-step P l code s h k = limit (leb most_steps s.counts.steps) refl
   where
-    admitted : (a : Act) (o : Option End) → s.counts.steps < most_steps → plan code s ≡ Ok (Go a) → refusal l s a ≡ o → MadeStep P (admit s a o)
+    admitted : (a : Act) (o : Option End) → s.counts.steps < most_steps → plan code s ≡ Ok (Some a) → refusal l s a ≡ o → MadeStep P (admit s a o)
     admitted a None u p e = k a u p e
     admitted a (Some d) u p e = tt
 
     settled : (p : Plan) → s.counts.steps < most_steps → plan code s ≡ p → MadeStep P (settle l s p)
     settled (Err e) u q = tt
-    settled (Ok Halt) u q = h u
-    settled (Ok (Go a)) u q = admitted a (refusal l s a) u q refl
+    settled (Ok None) u q = h u
+    settled (Ok (Some a)) u q = admitted a (refusal l s a) u q refl
 
     limit : (b : Bool) → leb most_steps s.counts.steps ≡ b → MadeStep P (cond b (refused StepLimit) (settle l s (plan code s)))
     limit true e = tt
     limit false e = settled (plan code s) (leb-false most_steps s.counts.steps e) refl
 
-pub acts_of : (P : Act → Type 0) (p : Plan) (a : Act) → p ≡ Ok (Go a) → Acts P p → P a
+pub acts_of : (P : Act → Type 0) (p : Plan) (a : Act) → p ≡ Ok (Some a) → Acts P p → P a
 acts_of P p a e h = let Q : Plan → Type 0 = Acts P in subst Q e h
 
 -- What some steps do to the winds, by their numbers and in all, and how many steps they are.
