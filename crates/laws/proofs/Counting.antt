@@ -62,7 +62,7 @@ prefix_count k (x ∷ xs) (y ∷ ys) h =
 
 -- one more, at the next index, is a beginning still
 pub prefix_next : (xs ys : List ℕ) (y : ℕ) → Prefix xs ys → slice_get ys (length xs) ≡ Some y → Prefix (xs ++ (y ∷ [])) ys
-prefix_next [] [] y h e = absurd (let z : ◌≡◌ {A = ℕ} 0 1 = cc in omega arith)
+prefix_next [] [] y h e = cc
 prefix_next [] (x ∷ ys) y h e = (cc, tt)
 prefix_next (x ∷ xs) [] y h e = absurd h
 prefix_next (x ∷ xs) (z ∷ ys) y h e = (h.0, prefix_next xs ys y h.1 e)
@@ -81,7 +81,7 @@ prefix_common (x ∷ xs) (y ∷ ys) h = go (eqb x y) refl (prefix_common xs ys) 
 -- and ys has no more
 pub same-common : (xs ys : List ℕ) → length xs ≤ common xs ys → slice_get ys (common xs ys) ≡ None → xs ≡ ys
 same-common [] [] h e = refl
-same-common [] (y ∷ ys) h e = absurd (let z : ◌≡◌ {A = ℕ} 0 1 = cc in omega arith)
+same-common [] (y ∷ ys) h e = cc
 same-common (x ∷ xs) [] h e = absurd (omega arith)
 same-common (x ∷ xs) (y ∷ ys) h e = go (eqb x y) refl (same-common xs ys) h e
   where
@@ -104,16 +104,16 @@ length-map f [] = refl
 length-map f (x ∷ xs) = ap suc (length-map f xs)
 
 pub nth_map_some : {A B : Type 0} (f : A → B) (xs : List A) (i : ℕ) (x : A) → slice_get xs i ≡ Some x → slice_get (map f xs) i ≡ Some (f x)
-nth_map_some f [] i x e = absurd (let z : ◌≡◌ {A = ℕ} 0 1 = cc in omega arith)
+nth_map_some f [] i x e = cc
 nth_map_some f (y ∷ xs) zero x e = let i : y ≡ x = cc in ap (λ z. Some (f z)) i
 nth_map_some f (y ∷ xs) (suc i) x e = nth_map_some f xs i x e
 
 pub nth_map_none : {A B : Type 0} (f : A → B) (xs : List A) (i : ℕ) → slice_get xs i ≡ None → slice_get (map f xs) i ≡ None
 nth_map_none f [] i e = refl
-nth_map_none f (y ∷ xs) zero e = absurd (let z : ◌≡◌ {A = ℕ} 0 1 = cc in omega arith)
+nth_map_none f (y ∷ xs) zero e = cc
 nth_map_none f (y ∷ xs) (suc i) e = nth_map_none f xs i e
 
 pub nth_below : {A : Type 0} (xs : List A) (i : ℕ) (x : A) → slice_get xs i ≡ Some x → i < length xs
-nth_below [] i x e = absurd (let z : ◌≡◌ {A = ℕ} 0 1 = cc in omega arith)
+nth_below [] i x e = cc
 nth_below (y ∷ xs) zero x e = omega arith
 nth_below (y ∷ xs) (suc i) x e = let h = nth_below xs i x e in omega arith

@@ -99,15 +99,15 @@ module _ (l : Limits) (s : State) (k : Reached l s) where
   found_checked (Err e) f h k = λ p. h (let i : e ≡ WrongFrame = cc in ap Err i)
 
   found-act : (a : Act) → Found (does a)
-  found-act a p = let z : ◌≡◌ {A = ℕ} 0 1 = cc in omega arith
+  found-act a p = cc
 
   found-top : (ws : List Wind) (k : ℕ) → k < length ws → top_wind ws ≡ Err WrongFrame → ⊥
   found-top [] k h e = omega arith
-  found-top (w ∷ ws) k h e = let z : ◌≡◌ {A = ℕ} 0 1 = cc in omega arith
+  found-top (w ∷ ws) k h e = cc
 
   found-held : (o : Option Capture) → ok_or o NotHeld ≡ Err WrongFrame → ⊥
-  found-held None e = let z : ◌≡◌ {A = ℕ} 0 1 = cc in omega arith
-  found-held (Some c) e = let z : ◌≡◌ {A = ℕ} 0 1 = cc in omega arith
+  found-held None e = cc
+  found-held (Some c) e = cc
 
   found-unwind : (n : Name) (v : Value) (c : Capture) (b : Bool) (o : Option Wind) → ltb (shared s.winds c.winds) (length s.winds) ≡ b → Found (unwind b o c n v s)
   found-unwind n v c true o e = found_checked (top_wind s.winds) _ (found-top s.winds _ (ltb-true _ _ e)) (λ w. found-act _)

@@ -71,7 +71,7 @@ some_is : (d e : End) → ◌≡◌ {A = Option End} (Some d) (Some e) → d ≡
 some_is d e p = cc
 
 none_some : (e : End) → ◌≡◌ {A = Option End} None (Some e) → ⊥
-none_some e p = let z : ◌≡◌ {A = ℕ} 0 1 = cc in omega arith
+none_some e p = cc
 
 pub no_longer : NoLonger
 no_longer l m code zero k s e p q = absurd (none_some e p)

@@ -11,7 +11,7 @@ module _ {A : Type 0} (name : A → ℕ) where
   names = map name
 
   pub find-name : (xs : List A) (n : ℕ) (x : A) → find name xs n ≡ Some x → name x ≡ n
-  find-name [] n x e = absurd (let z : ◌≡◌ {A = ℕ} 0 1 = cc in omega arith)
+  find-name [] n x e = cc
   find-name (y ∷ xs) n x e = go (eqb (name y) n) refl (find-name xs n x) e
     where
       go : (b : Bool) → eqb (name y) n ≡ b → (find name xs n ≡ Some x → name x ≡ n) → cond b (Some y) (find name xs n) ≡ Some x → name x ≡ n
@@ -19,7 +19,7 @@ module _ {A : Type 0} (name : A → ℕ) where
       go false f ih e = ih e
 
   pub find-all : (P : A → Type 0) (xs : List A) (n : ℕ) (x : A) → find name xs n ≡ Some x → All P xs → P x
-  find-all P [] n x e h = absurd (let z : ◌≡◌ {A = ℕ} 0 1 = cc in omega arith)
+  find-all P [] n x e h = cc
   find-all P (y ∷ xs) n x e h = go (eqb (name y) n) (find-all P xs n x) e
     where
       go : (b : Bool) → (find name xs n ≡ Some x → All P xs → P x) → cond b (Some y) (find name xs n) ≡ Some x → P x
@@ -47,7 +47,7 @@ module _ {A : Type 0} (name : A → ℕ) where
     where
       go : (b : Bool) → (find name xs n ≡ None → find name (xs ++ (y ∷ [])) n ≡ Some y) → cond b (Some x) (find name xs n) ≡ None
           → cond b (Some x) (find name (xs ++ (y ∷ [])) n) ≡ Some y
-      go true ih e = absurd (let z : ◌≡◌ {A = ℕ} 0 1 = cc in omega arith)
+      go true ih e = cc
       go false ih e = ih e
 
   pub names_push : (xs : List A) (y : A) → names (xs ++ (y ∷ [])) ≡ names xs ++ (name y ∷ [])
@@ -88,11 +88,11 @@ module _ {A : Type 0} (name : A → ℕ) where
       go (inl i) =
           let P : ℕ → Type 0 = λ k. find name (without name xs m) k ≡ None in
           let r : find name (without name xs m) n ≡ None = subst P i (find-removed xs m h) in
-          absurd (let z : ◌≡◌ {A = ℕ} 0 1 = cc in omega arith)
+          cc
       go (inr i) = sym (find_other xs m n i) ∙ e
 
   pub length_without : (xs : List A) (n : ℕ) (x : A) → find name xs n ≡ Some x → suc (length (without name xs n)) ≡ length xs
-  length_without [] n x e = absurd (let z : ◌≡◌ {A = ℕ} 0 1 = cc in omega arith)
+  length_without [] n x e = cc
   length_without (y ∷ xs) n x e = go (eqb (name y) n) (length_without xs n x) e
     where
       go : (b : Bool) → (find name xs n ≡ Some x → suc (length (without name xs n)) ≡ length xs) → cond b (Some y) (find name xs n) ≡ Some x

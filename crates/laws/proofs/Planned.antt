@@ -149,11 +149,11 @@ plain_top (w ∷ ws) = tt
 
 -- a held name is found
 holds : (s : State) (n : Name) (c : Capture) (o : Option Capture) → ok_or o NotHeld ≡ Ok c → o ≡ Some c
-holds s n c None e = absurd (let z : ◌≡◌ {A = ℕ} 0 1 = cc in omega arith)
+holds s n c None e = cc
 holds s n c (Some d) e = cc
 
 some_wind : (ws : List Wind) (w : Wind) → top_wind ws ≡ Ok w → (vs : List Wind) × (ws ≡ w ∷ vs)
-some_wind [] w e = absurd (let z : ◌≡◌ {A = ℕ} 0 1 = cc in omega arith)
+some_wind [] w e = cc
 some_wind (v ∷ vs) w e = (vs, cc)
 
 -- the value in a register or a global

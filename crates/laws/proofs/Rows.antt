@@ -87,13 +87,13 @@ module _ {A B C D : Type 0} (na : A → ℕ) (nb : B → ℕ) (nc : C → ℕ) (
     where
       go : (b : Bool) → (find na xs n ≡ None → find nd (joined make xs ys zs) n ≡ None) → cond b (Some x) (find na xs n) ≡ None
           → cond b (Some (make x y z)) (find nd (joined make xs ys zs) n) ≡ None
-      go true ih e = absurd (let w : ◌≡◌ {A = ℕ} 0 1 = cc in omega arith)
+      go true ih e = cc
       go false ih e = ih e
 
   module _ (n : ℕ) (a : A) (b : B) (c : C) where
     pub joined-found : (xs : List A) (ys : List B) (zs : List C) → Matched na nb nc xs ys zs → find na xs n ≡ Some a → find nb ys n ≡ Some b → find nc zs n ≡ Some c
         → find nd (joined make xs ys zs) n ≡ Some (make a b c)
-    joined-found [] [] [] h e f g = absurd (let w : ◌≡◌ {A = ℕ} 0 1 = cc in omega arith)
+    joined-found [] [] [] h e f g = cc
     joined-found [] [] (z ∷ zs) h e f g = absurd h
     joined-found [] (y ∷ ys) zs h e f g = absurd h
     joined-found (x ∷ xs) [] zs h e f g = absurd h

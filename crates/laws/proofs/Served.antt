@@ -142,7 +142,7 @@ module _ (l : Limits) (code : List Instruction) where
       where
         none_is : (o : Option End) → is_some o ≡ false → o ≡ None
         none_is None e = refl
-        none_is (Some d) e = absurd (let z : ◌≡◌ {A = ℕ} 0 1 = cc in omega arith)
+        none_is (Some d) e = cc
 
         go : (has bad short : Bool) → is_some end ≡ has
             → After (n + steps_in (told (by_tests (at s end) budget buffer has bad short)).0) (out ++ output_in (told (by_tests (at s end) budget buffer has bad short)).0)

@@ -191,7 +191,7 @@ module _ (s : State) (k : Sound s) (fs : List Frame) where
 
   was_changed : (n : ℕ) (c : Capture) (o : Option Capture) → find capture_name s.held n ≡ o
       → mapped capture_name (changed capture_name (marked_in fs) for_many) o ≡ Some c → Was n c
-  was_changed n c None e f = absurd (let z : ◌≡◌ {A = ℕ} 0 1 = cc in omega arith)
+  was_changed n c None e f = cc
   was_changed n c (Some d) e f =
       let i : changed capture_name (marked_in fs) for_many d ≡ c = cc in
       record { before = d; found = e; same = sym (changed-winds (marked_in fs) d) ∙ ap (λ (x : Capture). x.winds) i }

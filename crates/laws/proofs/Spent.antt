@@ -41,15 +41,15 @@ went_is l code s t b es = limit (leb most_steps s.counts.steps)
   where
     admitted : (a : Act) (o : Option End) → plan code s ≡ Ok (Some a) → admit s a o ≡ went t b es → (a : Act) × (plan code s ≡ Ok (Some a)) × (t ≡ apply s a)
     admitted a None p e = (a, p, cc)
-    admitted a (Some d) p e = absurd (let z : ◌≡◌ {A = ℕ} 0 1 = cc in omega arith)
+    admitted a (Some d) p e = cc
 
     settled : (p : Plan) → plan code s ≡ p → settle l s p ≡ went t b es → (a : Act) × (plan code s ≡ Ok (Some a)) × (t ≡ apply s a)
-    settled (Err d) p e = absurd (let z : ◌≡◌ {A = ℕ} 0 1 = cc in omega arith)
-    settled (Ok None) p e = absurd (let z : ◌≡◌ {A = ℕ} 0 1 = cc in omega arith)
+    settled (Err d) p e = cc
+    settled (Ok None) p e = cc
     settled (Ok (Some a)) p e = admitted a (refusal l s a) p e
 
     limit : (c : Bool) → cond c (refused StepLimit) (settle l s (plan code s)) ≡ went t b es → (a : Act) × (plan code s ≡ Ok (Some a)) × (t ≡ apply s a)
-    limit true e = absurd (let z : ◌≡◌ {A = ℕ} 0 1 = cc in omega arith)
+    limit true e = cc
     limit false e = settled (plan code s) refl e
 
 common_self : (xs : List ℕ) → common xs xs ≡ length xs
@@ -112,7 +112,7 @@ gone-step l code s n k g =
       none_found n _ (λ c f.
           let w : Was s k (frames_after s a.frames) n c = was s k (frames_after s a.frames) a.names n c g.0 f in
           let z : ◌≡◌ {A = Option Capture} (Some w.before) None = sym w.found ∙ g.1 in
-          let y : ◌≡◌ {A = ℕ} 0 1 = cc in omega arith),
+          cc),
     ))
 
 gone-course : (l : Limits) (code : List Instruction) (m : ℕ) (s : State) (n : ℕ) → Reached l s → Gone n s → Gone n (course l code m s).state
