@@ -98,22 +98,3 @@ map_reverse_aux f (x ∷ xs) ys = map_reverse_aux f xs (x ∷ ys)
 
 pub map-reverse : {A B : Type 0} (f : A → B) (xs : List A) → map f (reverse xs) ≡ reverse (map f xs)
 map-reverse f xs = map_reverse_aux f xs []
-
-pub length-map : {A B : Type 0} (f : A → B) (xs : List A) → length (map f xs) ≡ length xs
-length-map f [] = refl
-length-map f (x ∷ xs) = ap suc (length-map f xs)
-
-pub nth_map_some : {A B : Type 0} (f : A → B) (xs : List A) (i : ℕ) (x : A) → slice_get xs i ≡ Some x → slice_get (map f xs) i ≡ Some (f x)
-nth_map_some f [] i x e = cc
-nth_map_some f (y ∷ xs) zero x e = let i : y ≡ x = cc in ap (λ z. Some (f z)) i
-nth_map_some f (y ∷ xs) (suc i) x e = nth_map_some f xs i x e
-
-pub nth_map_none : {A B : Type 0} (f : A → B) (xs : List A) (i : ℕ) → slice_get xs i ≡ None → slice_get (map f xs) i ≡ None
-nth_map_none f [] i e = refl
-nth_map_none f (y ∷ xs) zero e = cc
-nth_map_none f (y ∷ xs) (suc i) e = nth_map_none f xs i e
-
-pub nth_below : {A : Type 0} (xs : List A) (i : ℕ) (x : A) → slice_get xs i ≡ Some x → i < length xs
-nth_below [] i x e = cc
-nth_below (y ∷ xs) zero x e = omega arith
-nth_below (y ∷ xs) (suc i) x e = let h = nth_below xs i x e in omega arith

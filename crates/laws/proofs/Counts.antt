@@ -1,7 +1,8 @@
 -- The laws of counts, names and winds, over every course from the start.
 use Rattle.std.proofs.Common.{◌≡◌, ℕ, suc, ◌+◌, ◌<◌, ◌≤◌, Bool, true, false, cond, eqb, ltb, List, [], ◌∷◌, reverse, length, ℤ, Some, None, Ok, Err, Option, sym, refl, ap, ◌∙◌, subst, inl, inr, arith}
-use lib.ListN.{length-reverse}
+use Rattle.std.proofs.lemmas.List.{length-map, length-reverse}
 use Rattle.std.specs.Option.{ok_or}
+use Rattle.std.proofs.lemmas.Option.{slice_get_within}
 use Rattle.std.proofs.lemmas.Bool.{eqb-true, eq-eqb, ltb-true}
 use Rattle.cell.specs.declared.name.Name.{Name}
 use Rattle.cell.specs.declared.value.Value.{Value}
@@ -28,7 +29,7 @@ use Rattle.machine.specs.Plan.{plan, plan_in}
 use Rattle.machine.specs.Course.{Course, course}
 use Rattle.laws.specs.Counts.{CountsConserved, CountsWithinSteps, AllNamesMade, InForce, WindsBalanced}
 use Rattle.laws.specs.Reached.{LimitsKept, SomeWind, PlanEnd, Unreached, NeverReached, NoThrow, bodies, WindsStand, RightWinds}
-use Rattle.laws.proofs.Counting.{one_if, count, length-map, nth_below}
+use Rattle.laws.proofs.Counting.{one_if, count}
 use Rattle.laws.proofs.Named.{find-all, find_none}
 use Rattle.laws.proofs.Planned.{Acts, Planned, rested, thrown, Rested, writes, pushes, pushes_both, pops_one, passes_mark, captures-many, captures-once, forgets, opens, closes, tosses, reenters, Thrown, throws_out, throws_in, lands, planned}
 use Rattle.laws.proofs.Sound.{Sound, Fits, Rests}
@@ -129,7 +130,7 @@ module _ (l : Limits) (s : State) (k : Reached l s) where
   placed_again : (n : ℕ) (c : Capture) (next : Option Wind) → find capture_name s.held n ≡ Some c → wind_at c.winds (length s.winds) ≡ next → Placed (again next)
   placed_again n c None e f = tt
   placed_again n c (Some w) e f =
-      let a = nth_below (reverse c.winds) (length s.winds) w f in
+      let a = slice_get_within (reverse c.winds) (length s.winds) w f in
       let b = length-reverse c.winds in
       let d = (find-all capture_name (λ (c : Capture). (length c.frames ≤ l.frames) × (length c.winds ≤ l.winds)) s.held n c e k.within.saved).1 in omega arith
 
@@ -224,7 +225,7 @@ module _ (s : State) (k : Sound s) where
   winds_stand : WindsStand s
   winds_stand = record {
     as_bodies = λ q p.
-        sym (length-map wind_number s.winds) ∙ bodies-winds s.held s.frames (wind_numbers s.winds) (at_rest s k s.mode _ q k.fits) p;
+        sym (length-map s.winds wind_number) ∙ bodies-winds s.held s.frames (wind_numbers s.winds) (at_rest s k s.mode _ q k.fits) p;
     as_saved = λ code a n c p e f.
         let P : FrameMove → Type 0 = Landed in
         subst P e (landed a (acts_of (Planned s) (plan code s) a p (planned s k.known code))) c f;

@@ -1,8 +1,10 @@
 -- Each act that is planned in a sound state meets what it has to, so each step leads from a sound state to a sound one.
 use Rattle.std.proofs.Common.{◌≡◌, ℕ, ◌≤◌, List, [], ◌∷◌, ◌++◌, reverse, length, Some, None, Option, sym, ap, ◌∙◌, subst, arith}
 use mathlib.Core.List.{reverse-cons, reverse-reverse}
-use lib.ListN.{length-reverse}
+use Rattle.std.proofs.lemmas.List.{length-map, length-reverse}
 use Rattle.std.specs.List.{slice_get, AllByRecursion as All}
+use Rattle.std.specs.Option.{option_map}
+use Rattle.std.proofs.lemmas.Option.{slice_get-map}
 use Rattle.std.proofs.lemmas.Bool.{cond_both}
 use Rattle.cell.specs.declared.name.Name.{Name}
 use Rattle.cell.specs.declared.value.Value.{Value}
@@ -23,7 +25,7 @@ use Rattle.machine.specs.Throwing.{shared, common}
 use Rattle.machine.specs.Apply.{below, replaced, saved_frames, frames_after, winds_after}
 use Rattle.laws.specs.Counts.{Made}
 use Rattle.laws.specs.Reached.{AtRest}
-use Rattle.laws.proofs.Counting.{Numbered, numbered_less, count-reverse, Prefix, prefix_count, prefix_next, prefix_common, same-common, map-reverse, length-map, nth_map_some, nth_map_none}
+use Rattle.laws.proofs.Counting.{Numbered, numbered_less, count-reverse, Prefix, prefix_count, prefix_next, prefix_common, same-common, map-reverse}
 use Rattle.laws.proofs.Named.{find-all}
 use Rattle.laws.proofs.Frames.{Passed, walk_push, walk_pop}
 use Rattle.laws.proofs.Planned.{Planned, rested, thrown, Rested, writes, pushes, pushes_both, pops_one, passes_mark, captures-many, captures-once, forgets, opens, closes, tosses, reenters, Thrown, throws_out, throws_in, lands, Holds}
@@ -81,9 +83,9 @@ module _ (s : State) (k : Sound s) where
       → Numbered s.counts.numbered (wind_number w ∷ here)
   entered-again n c w e p f =
       let us : List ℕ = wind_numbers c.winds in
-      let len : length (reverse here) ≡ length s.winds = length-reverse here ∙ length-map wind_number s.winds in
+      let len : length (reverse here) ≡ length s.winds = length-reverse here ∙ length-map s.winds wind_number in
       let at : slice_get (reverse us) (length (reverse here)) ≡ Some (wind_number w) =
-      ap (λ i. slice_get (reverse us) i) len ∙ ap (λ xs. slice_get xs (length s.winds)) (sym (map-reverse wind_number c.winds)) ∙ nth_map_some wind_number (reverse c.winds) (length s.winds) w f in
+      ap (λ i. slice_get (reverse us) i) len ∙ ap (λ xs. slice_get xs (length s.winds)) (sym (map-reverse wind_number c.winds)) ∙ slice_get-map wind_number (reverse c.winds) (length s.winds) ∙ ap (option_map wind_number) f in
       let q : Prefix (reverse here ++ (wind_number w ∷ [])) (reverse us) = prefix_next (reverse here) (reverse us) (wind_number w) p at in
       let q' : Prefix (reverse (wind_number w ∷ here)) (reverse us) = rw reverse-cons q in
       numbered_less s.counts.numbered (wind_number w ∷ here) us
@@ -98,7 +100,7 @@ module _ (s : State) (k : Sound s) where
   -- if no wind has to be left, the winds in force begin the saved ones
   module _ (n : Name) (c : Capture) (e : Holds s n c) (u : length s.winds ≤ shared s.winds c.winds) where
     deep : length (reverse here) ≤ common (reverse here) (reverse (wind_numbers c.winds))
-    deep = let len : length (reverse here) ≡ length s.winds = length-reverse here ∙ length-map wind_number s.winds in omega arith
+    deep = let len : length (reverse here) ≡ length s.winds = length-reverse here ∙ length-map s.winds wind_number in omega arith
 
     enter_fits : (v : Value) (fs : List Frame) → Stands (Enter n v ∷ fs) here
     enter_fits v fs d f =
@@ -111,7 +113,7 @@ module _ (s : State) (k : Sound s) where
     winds-saved z =
         let us : List ℕ = wind_numbers c.winds in
         let none : slice_get (reverse us) (shared s.winds c.winds) ≡ None =
-        ap (λ xs. slice_get xs (shared s.winds c.winds)) (sym (map-reverse wind_number c.winds)) ∙ nth_map_none wind_number (reverse c.winds) (shared s.winds c.winds) z in
+        ap (λ xs. slice_get xs (shared s.winds c.winds)) (sym (map-reverse wind_number c.winds)) ∙ slice_get-map wind_number (reverse c.winds) (shared s.winds c.winds) ∙ ap (option_map wind_number) z in
         let b : reverse here ≡ reverse us = same-common (reverse here) (reverse us) deep none in
         sym (reverse-reverse here) ∙ ap reverse b ∙ reverse-reverse us
 

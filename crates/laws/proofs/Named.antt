@@ -1,6 +1,7 @@
 -- The laws of looking a thing up by its name: what a push, a removal and a change of things do to it.
 use Rattle.std.proofs.Common.{◌≡◌, ℕ, suc, ◌+◌, ◌≤◌, Bool, true, false, cond, eqb, ◌⊎◌, List, [], ◌∷◌, ◌++◌, map, length, Some, None, Option, sym, refl, ap, ◌∙◌, subst, inl, inr, arith}
 use Rattle.std.specs.List.{AllByRecursion as All}
+use Rattle.std.specs.Option.{option_map}
 use Rattle.std.proofs.lemmas.Bool.{cond_both, cond-true, cond-false, eqb-true, eq-eqb, ne_eqb, cases_eq}
 use Rattle.machine.specs.Named.{find, without}
 use Rattle.laws.proofs.Counting.{count}
@@ -119,20 +120,15 @@ module _ {A : Type 0} (name : A → ℕ) where
 
   -- A change that keeps the names.
 
-  -- what is found, changed
-  abbrev pub mapped : (A → A) → Option A → Option A
-  mapped change None = None
-  mapped change (Some x) = Some (change x)
-
   module _ (change : A → A) (keeps : (x : A) → name (change x) ≡ name x) where
-    pub find-map : (xs : List A) (n : ℕ) → find name (map change xs) n ≡ mapped change (find name xs n)
+    pub find-map : (xs : List A) (n : ℕ) → find name (map change xs) n ≡ option_map change (find name xs n)
     find-map [] n = refl
     find-map (x ∷ xs) n =
         ap (λ k. cond (eqb k n) (Some (change x)) (find name (map change xs) n)) (keeps x)
         ∙ ap (cond (eqb (name x) n) (Some (change x))) (find-map xs n)
         ∙ go (eqb (name x) n)
       where
-        go : (b : Bool) → cond b (Some (change x)) (mapped change (find name xs n)) ≡ mapped change (cond b (Some x) (find name xs n))
+        go : (b : Bool) → cond b (Some (change x)) (option_map change (find name xs n)) ≡ option_map change (cond b (Some x) (find name xs n))
         go true = refl
         go false = refl
 

@@ -1,6 +1,6 @@
 -- A one-shot continuation comes back at most once.
 use Rattle.std.proofs.Common.{◌≡◌, ℕ, zero, suc, ◌≤◌, Bool, true, false, cond, eqb, ltb, leb, List, [], ◌∷◌, reverse, length, Some, None, Ok, Err, Option, sym, refl, ap, ◌∙◌, subst, inl, inr, arith}
-use lib.ListN.{length-reverse}
+use Rattle.std.proofs.lemmas.List.{length-map, length-reverse}
 use Rattle.std.specs.Option.{ok_or}
 use Rattle.std.proofs.lemmas.Option.{slice_get_past}
 use Rattle.std.proofs.lemmas.Bool.{cond-true, eq-eqb, le-ltb}
@@ -29,7 +29,6 @@ use Rattle.machine.specs.Admission.{refusal}
 use Rattle.machine.specs.Step.{Outcome, went, finished, refused, admit, settle, most_steps, step}
 use Rattle.machine.specs.Course.{follow, course}
 use Rattle.laws.specs.OneShot.{Released, ComesBack, OneShotOnce}
-use Rattle.laws.proofs.Counting.{length-map}
 use Rattle.laws.proofs.Named.{find-removed}
 use Rattle.laws.proofs.Sound.{Sound, made_up, Was, was}
 use Rattle.laws.proofs.Steps.{Reached, Good, MadeStep, made-step, good_step, good_course, start_reached}
@@ -71,8 +70,8 @@ module _ (s : State) (code : List Instruction) (n : Name) (c : Capture) (found :
   spends-throw : (v : Value) → s.mode ≡ Throwing n v → wind_numbers s.winds ≡ wind_numbers c.winds → Spends c n (plan code s)
   spends-throw v e f =
       let deep : shared s.winds c.winds ≡ length s.winds =
-      ap (λ xs. common (reverse (wind_numbers s.winds)) (reverse xs)) (sym f) ∙ common_self (reverse (wind_numbers s.winds)) ∙ length-reverse (wind_numbers s.winds) ∙ length-map wind_number s.winds in
-      let long : length s.winds ≡ length c.winds = sym (length-map wind_number s.winds) ∙ ap length f ∙ length-map wind_number c.winds in
+      ap (λ xs. common (reverse (wind_numbers s.winds)) (reverse xs)) (sym f) ∙ common_self (reverse (wind_numbers s.winds)) ∙ length-reverse (wind_numbers s.winds) ∙ length-map s.winds wind_number in
+      let long : length s.winds ≡ length c.winds = sym (length-map s.winds wind_number) ∙ ap length f ∙ length-map c.winds wind_number in
       let out : ltb (shared s.winds c.winds) (length s.winds) ≡ false = le-ltb _ _ (omega arith) in
       let past : wind_at c.winds (shared s.winds c.winds) ≡ None = slice_get_past (reverse c.winds) _ (omega (arith, length-reverse c.winds)) in
       let P : Mode → Type 0 = λ m. Spends c n (plan_in m code s) in
