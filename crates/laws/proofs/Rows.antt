@@ -15,7 +15,7 @@ module _ {A B C D : Type 0} (na : A → ℕ) (nb : B → ℕ) (nc : C → ℕ) (
   joined_push x y z e f (a ∷ xs) [] zs h = absurd h
   joined_push x y z e f (a ∷ xs) (b ∷ ys) [] h = absurd h
   joined_push x y z e f (a ∷ xs) (b ∷ ys) (c ∷ zs) h =
-      let i = joined_push x y z e f xs ys zs h.2 in ((h.0, h.1, i.0), ap (λ rs. make a b c ∷ rs) i.1)
+      let i = joined_push x y z e f xs ys zs h.2 in ((h.0, h.1, i.0), cc i.1)
 
   pub joined-without : (n : ℕ) (xs : List A) (ys : List B) (zs : List C) → Matched na nb nc xs ys zs
       → Matched na nb nc (without na xs n) (without nb ys n) (without nc zs n)
@@ -43,11 +43,7 @@ module _ {A B C D : Type 0} (na : A → ℕ) (nb : B → ℕ) (nc : C → ℕ) (
     joined-changed [] (y ∷ ys) zs h = absurd h
     joined-changed (x ∷ xs) [] zs h = absurd h
     joined-changed (x ∷ xs) (y ∷ ys) [] h = absurd h
-    joined-changed (x ∷ xs) (y ∷ ys) (z ∷ zs) h =
-        let i = joined-changed xs ys zs h.2 in (
-          (h.0, h.1 ∙ sym (changed-name z), i.0),
-          ap (λ r. r ∷ joined make xs ys (changed_all nc test change zs)) (changed_one x y z h.1) ∙ ap (λ rs. changed nd test change' (make x y z) ∷ rs) i.1,
-        )
+    joined-changed (x ∷ xs) (y ∷ ys) (z ∷ zs) h = grind (arith, h.0, h.1, changed-name z, changed_one x y z h.1, joined-changed xs ys zs h.2)
 
   pub joined-unheld : (n : ℕ) (xs : List A) (ys : List B) (zs : List C) → Matched na nb nc xs ys zs → find na xs n ≡ None → find nd (joined make xs ys zs) n ≡ None
   joined-unheld n [] [] [] h e = refl
