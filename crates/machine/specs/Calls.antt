@@ -1,7 +1,7 @@
 -- What each call on a run answers and leaves.
 use Rattle.std.specs.Prelude.{ℕ, zero, suc, ◌+◌, ◌-◌, cond, ◌||◌, List, [], ◌∷◌, ◌++◌, reverse, length, take, drop, is_some, Some, None, Ok, Err, Option, Result, nat_lt}
 use Rattle.std.specs.List.{slice_get}
-use Rattle.std.specs.Option.{ok_or}
+use Rattle.std.specs.Option.{ok_or, option_map}
 use Rattle.cell.specs.declared.frame.Frame.{Frame}
 use Rattle.cell.specs.declared.wind.Wind.{Wind}
 use Rattle.cell.specs.declared.address.Address.{Address}
@@ -104,8 +104,7 @@ last_address s = trying s.mode s.tried
 
 -- how a run ended, if it has
 abbrev pub ending : Option End → State → Option Ending
-ending None s = None
-ending (Some e) s = Some (record { end = e; address = last_address s })
+ending end s = option_map (λ e. record { end = e; address = last_address s }) end
 
 -- the figures of names and of winds
 abbrev pub name_tally : State → NameTally
