@@ -83,9 +83,8 @@ winds-balanced l code numbers n =
 module _ (l : Limits) (s : State) (k : Reached l s) where
   out_finds_wind : (fs : List Frame) → s.mode ≡ Returning → s.frames ≡ Out ∷ fs → SomeWind s
   out_finds_wind fs e f =
-      let P : Mode → Type 0 = λ m. Rests m (Fits s.held s.frames (wind_numbers s.winds)) in
-      let Q : List Frame → Type 0 = λ gs. Fits s.held gs (wind_numbers s.winds) in
-      go s.winds refl (subst Q f (subst P e k.sound.fits))
+      let fits = rw (e, f) at k.sound.fits in
+      go s.winds refl fits
     where
       go : (ws : List Wind) → s.winds ≡ ws → Fits s.held (Out ∷ fs) (wind_numbers ws) → SomeWind s
       go [] g h = absurd h
@@ -159,11 +158,11 @@ module _ (l : Limits) (s : State) (k : Reached l s) where
 
   reentry_has_place : (code : List Instruction) (a : Act) (w : Wind) → plan code s ≡ Ok (Some a) → a.winds ≡ Reenter w → length s.winds < l.winds
   reentry_has_place code a w p e =
-      let P : WindMove → Type 0 = Placed in
-      subst P e (placed a (acts_of (Planned s) (plan code s) a p (planned s k.sound.known code)))
+      let h = placed a (acts_of (Planned s) (plan code s) a p (planned s k.sound.known code)) in
+      rw e at h
 
   plan_ends : (code : List Instruction) (e : End) → plan code s ≡ Err e → PlanEnd e
-  plan_ends code e p = let P : Plan → Type 0 = Acts (Planned s) in subst P p (planned s k.sound.known code)
+  plan_ends code e p = let h = planned s k.sound.known code in rw p at h
 
   unreached : Unreached l s
   unreached = record {
@@ -219,16 +218,16 @@ module _ (s : State) (k : Sound s) where
   landed a (thrown n v m (throws_in c w e u)) = tt
   landed a (thrown n v m (lands c e u z)) = λ d f.
       let i : c ≡ d = cc in
-      let P : Capture → Type 0 = λ x. wind_numbers s.winds ≡ wind_numbers x.winds in
-      subst P i (winds-saved s k n c e u z)
+      cc (i, winds-saved s k n c e u z)
 
   winds_stand : WindsStand s
   winds_stand = record {
     as_bodies = λ q p.
         sym (length-map s.winds wind_number) ∙ bodies-winds s.held s.frames (wind_numbers s.winds) (at_rest s k s.mode _ q k.fits) p;
     as_saved = λ code a n c p e f.
-        let P : FrameMove → Type 0 = Landed in
-        subst P e (landed a (acts_of (Planned s) (plan code s) a p (planned s k.known code))) c f;
+        let h = landed a (acts_of (Planned s) (plan code s) a p (planned s k.known code)) in
+        let landed_there = rw e at h in
+        landed_there c f;
   }
 
 pub right-winds : RightWinds

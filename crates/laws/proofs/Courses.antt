@@ -33,8 +33,7 @@ same_count l m code (suc n) (suc k) s e = go (step l code s) (step m code s) (al
         → ((t : State) → (course l code n t).steps ≡ (course m code k t).steps → Level (course l code n t) (course m code k t))
         → Level (follow o s (course l code n)) (follow o' s (course m code k))
     go (went t b e) (went u c f) h p ih =
-        let P : State → Type 0 = λ v. (course l code n t).steps ≡ (course m code k v).steps in
-        let i : Level (course l code n t) (course m code k t) = ih t (subst P (sym h.0) (omega arith)) in
+        let i : Level (course l code n t) (course m code k t) = ih t (grind (arith, h.0)) in
         record { state = cc (h.0, i.state); output = cc (h.0, h.1, i.output); trail = cc (h.0, h.2, i.trail) }
     go (went t b e) (finished u) h p ih = absurd h
     go (went t b e) (refused d) h p ih = absurd (omega arith)
@@ -59,8 +58,7 @@ one_output l m code (suc n) (suc k) s h = go (step l code s) (step m code s) (al
         → ((t : State) → (course l code n t).steps ≤ (course m code k t).steps → Begins (course l code n t).output (course m code k t).output)
         → Begins (follow o s (course l code n)).output (follow o' s (course m code k)).output
     go (went t b e) (went u c f) a h ih =
-        let P : State → Type 0 = λ v. (course l code n t).steps ≤ (course m code k v).steps in
-        let i : Begins (course l code n t).output (course m code k t).output = ih t (subst P (sym a.0) (omega arith)) in
+        let i : Begins (course l code n t).output (course m code k t).output = ih t (grind (arith, a.0)) in
         (i.0, cc (a.0, a.1, i.1, append_assoc b (course l code n t).output i.0))
     go (went t b e) (finished u) a h ih = absurd a
     go (went t b e) (refused d) a h ih = absurd (omega arith)
@@ -76,8 +74,7 @@ no_longer l m code (suc n) (suc k) s e p q = go (step l code s) (step m code s) 
         → ((t : State) (d : End) → (course l code n t).end ≡ Some d → (IsLimit d → ⊥) → (course m code k t).steps ≤ (course l code n t).steps)
         → (follow o' s (course m code k)).steps ≤ (follow o s (course l code n)).steps
     go (went t b es) (went u c fs) a h ih =
-        let P : State → Type 0 = λ v. (course m code k v).steps ≤ (course l code n t).steps in
-        omega (arith, subst P a.0 (ih t e h q))
+        rw (← a.0) (omega (arith, ih t e h q))
     go (went t b es) (finished u) a h ih = absurd a
     go (went t b es) (refused d) a h ih = omega arith
     go (finished t) (went u c fs) a h ih = absurd a

@@ -55,13 +55,13 @@ module _ (s : State) (k : Sound s) where
 
   -- the frames below the top one, and with another on top
   popped : {f : Frame} {fs : List Frame} (ws : List ℕ) → s.frames ≡ f ∷ fs → Stands fs ws → Stands (below s.frames) ws
-  popped ws e h = let P : List Frame → Type 0 = λ gs. Stands (below gs) ws in subst P (sym e) h
+  popped ws e h = rw e h
 
   swapped : {f : Frame} {fs : List Frame} (g : Frame) (ws : List ℕ) → s.frames ≡ f ∷ fs → Stands (g ∷ fs) ws → Stands (replaced g s.frames) ws
-  swapped g ws e h = let P : List Frame → Type 0 = λ gs. Stands (replaced g gs) ws in subst P (sym e) h
+  swapped g ws e h = rw e h
 
   on_top : {f : Frame} {fs : List Frame} (ws : List ℕ) → s.frames ≡ f ∷ fs → Stands s.frames ws → Stands (f ∷ fs) ws
-  on_top ws e h = let P : List Frame → Type 0 = λ gs. Stands gs ws in subst P e h
+  on_top ws e h = rw e at h
 
   -- a name that is spent was held
   owned_spends : (fs : List Frame) (n : Name) (c : Capture) → Holds s n c → Owned s fs (spends c n)
@@ -70,9 +70,8 @@ module _ (s : State) (k : Sound s) where
   -- the body's Out takes its wind away
   out_fits : (fs : List Frame) (w : Wind) (ws : List Wind) → s.winds ≡ w ∷ ws → Stands (Out ∷ fs) here → Stands fs (wind_numbers (below s.winds))
   out_fits fs w ws e h =
-      let P : List Wind → Type 0 = λ us. Stands (Out ∷ fs) (wind_numbers us) in
-      let Q : List Wind → Type 0 = λ us. Stands fs (wind_numbers (below us)) in
-      subst Q (sym e) (subst P e h)
+      let there = rw e at h in
+      rw e there
 
   -- a captured list of winds has each number once
   saved-winds : (n : Name) (c : Capture) → Holds s n c → CaptureSound s.counts.numbered s.held c
@@ -105,8 +104,7 @@ module _ (s : State) (k : Sound s) where
     enter_fits : (v : Value) (fs : List Frame) → Stands (Enter n v ∷ fs) here
     enter_fits v fs d f =
         let i : c ≡ d = cc in
-        let P : Capture → Type 0 = λ x. Prefix (reverse here) (reverse (wind_numbers x.winds)) in
-        subst P i (prefix_common (reverse here) (reverse (wind_numbers c.winds)) deep)
+        rw (← i) (prefix_common (reverse here) (reverse (wind_numbers c.winds)) deep)
 
     -- and if none has to be entered, they are the saved ones
     pub winds-saved : wind_at c.winds (shared s.winds c.winds) ≡ None → here ≡ wind_numbers c.winds
@@ -119,9 +117,7 @@ module _ (s : State) (k : Sound s) where
 
     restored-fits : wind_at c.winds (shared s.winds c.winds) ≡ None → Stands (frames_after s (Restore n)) here
     restored-fits z =
-        let P : List ℕ → Type 0 = λ ws. Stands c.frames ws in
-        let Q : Option Capture → Type 0 = λ o. Stands (saved_frames o s.frames) here in
-        subst Q (sym e) (subst P (sym (winds-saved z)) (saved-winds n c e).frames)
+        rw (e, winds-saved z) (saved-winds n c e).frames
 
   -- what an act does not touch stays as it is
   legal_rested : (a : Act) → Rested s a → Stands s.frames here → Legal s a

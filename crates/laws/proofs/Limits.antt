@@ -62,14 +62,13 @@ alike l m code s = go (leb most_steps s.counts.steps)
 
 pub same_step : SameStep
 same_step l m code s t u b c e f p q =
-    let P : Outcome → Type 0 = λ o. Alike (went t b e) o in
-    let Q : Outcome → Type 0 = λ o. Alike o (step m code s) in
-    subst P q (subst Q p (alike l m code s))
+    let h = alike l m code s in
+    rw (p, q) at h
 
 pub same_end : SameEnd
 same_end l m code s e no_limit p =
-    let Q : Outcome → Type 0 = λ o. Alike o (step m code s) in
-    go (step m code s) (subst Q p (alike l m code s))
+    let h = alike l m code s in
+    go (step m code s) (rw p at h)
   where
     go : (o : Outcome) → Alike (refused e) o → o ≡ refused e
     go (went t c f) h = absurd (no_limit h)
@@ -79,8 +78,8 @@ same_end l m code s e no_limit p =
 
 pub same_finish : SameFinish
 same_finish l m code s t p =
-    let Q : Outcome → Type 0 = λ o. Alike o (step m code s) in
-    go (step m code s) (subst Q p (alike l m code s))
+    let h = alike l m code s in
+    go (step m code s) (rw p at h)
   where
     go : (o : Outcome) → Alike (finished t) o → o ≡ finished t
     go (went u c f) h = absurd h
@@ -139,9 +138,8 @@ wider_went l m code s w = go (leb most_steps s.counts.steps)
 
 pub wider_step : WiderStep
 wider_step l m code s t b e w p =
-    let Q : Outcome → Type 0 = λ o. Alike o (step m code s) in
-    let P : Outcome → Type 0 = λ o. Went o in
-    go (step m code s) (wider_went l m code s w (subst P (sym p) tt)) (subst Q p (alike l m code s))
+    let h = alike l m code s in
+    go (step m code s) (wider_went l m code s w (rw p tt)) (rw p at h)
   where
     go : (o : Outcome) → Went o → Alike (went t b e) o → o ≡ went t b e
     go (went u c f) i h = cc (h.0, h.1, h.2)

@@ -252,7 +252,7 @@ module _ (s : State) (k : NamesMade s) where
   planned code = go s.mode refl k.mode
     where
       rest : (m : Mode) → s.mode ≡ m → AtRest m → AtRest s.mode
-      rest m e h = let P : Mode → Type 0 = AtRest in subst P (sym e) h
+      rest m e h = rw e h
 
       go : (m : Mode) → s.mode ≡ m → All (Made s) (mode_names m) → Acts (Planned s) (plan_in m code s)
       go (Going p) e h = acts_map (Rested s) (Planned s) (λ a h. rested (rest (Going p) e tt) h) (plan_in (Going p) code s) (rested_fetched (slice_get code p.0) p)

@@ -62,11 +62,7 @@ Spends c n p = (a : Act) × (p ≡ Ok (Some a)) × (a.names ≡ spends c n)
 module _ (s : State) (code : List Instruction) (n : Name) (c : Capture) (found : find capture_name s.held n.0 ≡ Some c) where
   spends_mark : (fs : List Frame) → s.mode ≡ Returning → s.frames ≡ Mark n ∷ fs → Spends c n (plan code s)
   spends_mark fs e f =
-      let P : Mode → Type 0 = λ m. Spends c n (plan_in m code s) in
-      let Q : List Frame → Type 0 = λ gs. Spends c n (return gs s) in
-      let R : Option Capture → Type 0 = λ o. Spends c n (ok_or o NotHeld >>= λ d. does (naming (spends d n) (framing Rattle.machine.specs.declared.frame_move.FrameMove.TheVariants.Pop (moves Returning)))) in
-      subst P (sym e) (subst Q (sym f) (subst R (sym found) (_, refl, refl)))
-
+      rw (e, f, found) (_, refl, refl)
   spends-throw : (v : Value) → s.mode ≡ Throwing n v → wind_numbers s.winds ≡ wind_numbers c.winds → Spends c n (plan code s)
   spends-throw v e f =
       let deep : shared s.winds c.winds ≡ length s.winds =
@@ -74,11 +70,7 @@ module _ (s : State) (code : List Instruction) (n : Name) (c : Capture) (found :
       let long : length s.winds ≡ length c.winds = sym (length-map s.winds wind_number) ∙ ap length f ∙ length-map c.winds wind_number in
       let out : ltb (shared s.winds c.winds) (length s.winds) ≡ false = le-ltb _ _ (omega arith) in
       let past : wind_at c.winds (shared s.winds c.winds) ≡ None = slice_get_past (reverse c.winds) _ (omega (arith, length-reverse c.winds)) in
-      let P : Mode → Type 0 = λ m. Spends c n (plan_in m code s) in
-      let Q : Option Capture → Type 0 = λ o. Spends c n (ok_or o NotHeld >>= λ d. unwind (ltb (shared s.winds d.winds) (length s.winds)) (wind_at d.winds (shared s.winds d.winds)) d n v s) in
-      let R : Bool → Type 0 = λ x. Spends c n (unwind x (wind_at c.winds (shared s.winds c.winds)) c n v s) in
-      let T : Option Wind → Type 0 = λ o. Spends c n (unwind false o c n v s) in
-      subst P (sym e) (subst Q (sym found) (subst R (sym out) (subst T (sym past) (_, refl, refl))))
+      rw (e, found, out, past) (_, refl, refl)
 
   comes_back : ComesBack s n c → Spends c n (plan code s)
   comes_back (inl x) = spends_mark x.0 x.1 x.2
@@ -91,9 +83,7 @@ spent l code s k n c t b es found once back e =
     let x = comes_back s code n c found back in
     let same : x.0 ≡ w.0 = cc in
     let used : w.0.names ≡ Use n = sym (ap (λ (a : Act). a.names) same) ∙ x.2 ∙ cond-true c.once (Use n) KeepNames once in
-    let P : NameMove → Type 0 = λ m. find capture_name (held_after s (frames_after s w.0.frames) m) n.0 ≡ None in
-    let Q : State → Type 0 = λ u. Released u n.0 in
-    subst Q (sym w.2) (subst P (sym used) (find-removed capture_name s.held n.0 (k.names n.0).0))
+    rw (w.2, used) (find-removed capture_name s.held n.0 (k.names n.0).0)
 
 -- a name that was made and is not held stays so
 none_found : (n : ℕ) (o : Option Capture) → ((c : Capture) → o ≡ Some c → ⊥) → o ≡ None

@@ -59,7 +59,7 @@ made-step P l code s h k = limit (leb most_steps s.counts.steps) refl
     limit false e = settled (plan code s) (leb-false most_steps s.counts.steps e) refl
 
 pub acts_of : (P : Act → Type 0) (p : Plan) (a : Act) → p ≡ Ok (Some a) → Acts P p → P a
-acts_of P p a e h = let Q : Plan → Type 0 = Acts P in subst Q e h
+acts_of P p a e h = rw e at h
 
 -- What some steps do to the winds, by their numbers and in all, and how many steps they are.
 pub record Traced (s t : State) (n : ℕ) (es : List Event) : Type 0 where
