@@ -218,8 +218,7 @@ module _ (s : State) (k : Sound s) (fs : List Frame) where
   entering-after m (Toss n v) gs ws p h = tt
   entering-after m (Enter n v) gs ws p h = λ c e.
       let w : Was n.0 c = was m n.0 c p e in
-      let P : List Wind → Type 0 = λ us. Prefix (reverse ws) (reverse (wind_numbers us)) in
-      subst P w.same (h w.before w.found)
+      rw (← w.same) (h w.before w.found)
 
   -- frames that fit still fit after a move of the names
   fits_after : (m : NameMove) (gs : List Frame) (ws : List ℕ) → All (EntersMade s) gs → Fits s.held gs ws → Fits (held_after s fs m) gs ws
@@ -354,10 +353,8 @@ module _ (s : State) (a : Act) (k : Sound s) (g : Legal s a) where
   captures-after : All SoundAfter (held_after s fs a.names)
   captures-after =
       all-held_after SoundAfter s fs a.names (λ c h. record { winds = h.winds; frames = h.frames })
-      (λ e. let P : NameMove → Type 0 = Owned s fs in
-      capture-after (capture s false fs) enters-after (record { winds = k.winds; frames = subst P e g.owned }))
-      (λ e. let P : NameMove → Type 0 = Owned s fs in
-      capture-after (capture s true (below fs)) (all-below (EntersMade s) fs enters-after) (record { winds = k.winds; frames = subst P e g.owned }))
+      (λ e. capture-after (capture s false fs) enters-after (record { winds = k.winds; frames = rw e at g.owned }))
+      (λ e. capture-after (capture s true (below fs)) (all-below (EntersMade s) fs enters-after) (record { winds = k.winds; frames = rw e at g.owned }))
       (both s.held enters-saved k.captures)
 
 -- Counts.
