@@ -1,9 +1,9 @@
 -- The laws of counts, names and winds, over every course from the start.
-use Rattle.std.proofs.Common.{◌≡◌, ℕ, suc, ◌+◌, ◌<◌, ◌≤◌, Bool, true, false, cond, eqb, ltb, List, [], ◌∷◌, reverse, length, ℤ, Some, None, Ok, Err, Option, sym, refl, ap, ◌∙◌, subst, inl, inr, arith}
+use Rattle.std.proofs.Common.{◌≡◌, ℕ, suc, ◌+◌, ◌<◌, ◌≤◌, Bool, true, false, ltb, List, [], ◌∷◌, reverse, length, ℤ, Some, None, Ok, Err, Option, sym, refl, ap, ◌∙◌, subst, inl, inr, arith}
 use Rattle.std.proofs.lemmas.List.{length-map, length-reverse}
 use Rattle.std.specs.Option.{ok_or}
 use Rattle.std.proofs.lemmas.Option.{slice_get_within}
-use Rattle.std.proofs.lemmas.Bool.{eqb-true, eq-eqb, ltb-true}
+use Rattle.std.proofs.lemmas.Bool.{eq-eqb, ne_eqb, ltb-true}
 use Rattle.cell.specs.declared.name.Name.{Name}
 use Rattle.cell.specs.declared.value.Value.{Value}
 use Rattle.cell.specs.declared.frame.Frame.{Frame}
@@ -29,10 +29,10 @@ use Rattle.machine.specs.Plan.{plan, plan_in}
 use Rattle.machine.specs.Course.{Course, course}
 use Rattle.laws.specs.Counts.{CountsConserved, CountsWithinSteps, AllNamesMade, InForce, WindsBalanced}
 use Rattle.laws.specs.Reached.{LimitsKept, SomeWind, PlanEnd, Unreached, NeverReached, NoThrow, bodies, WindsStand, RightWinds}
-use Rattle.laws.proofs.Counting.{one_if, count}
+use Rattle.laws.proofs.Counting.{count}
 use Rattle.laws.proofs.Named.{find-all, find_none}
-use Rattle.laws.proofs.Planned.{Acts, Planned, rested, thrown, Rested, writes, pushes, pushes_both, pops_one, passes_mark, captures-many, captures-once, forgets, opens, closes, tosses, reenters, Thrown, throws_out, throws_in, lands, planned}
-use Rattle.laws.proofs.Sound.{Sound, Fits, Rests}
+use Rattle.laws.proofs.Planned.{Planned, rested, thrown, Rested, writes, pushes, pushes_both, pops_one, passes_mark, captures-many, captures-once, forgets, opens, closes, tosses, reenters, Thrown, throws_out, throws_in, lands, planned}
+use Rattle.laws.proofs.Sound.{Sound, Fits}
 use Rattle.laws.proofs.Keeps.{winds-saved, at_rest}
 use Rattle.laws.proofs.Steps.{Reached, Good, acts_of, good_course, start_reached}
 
@@ -55,17 +55,13 @@ limits-kept l code numbers n = (from_start l code numbers n).0.within
 
 -- a number in force stands there, and any other does not
 count_in : (k : ℕ) (ws : List Wind) → InForce k ws → 1 ≤ count k (wind_numbers ws)
-count_in k (w ∷ ws) (inl e) = let i : one_if (wind_number w) k ≡ 1 = ap (λ (b : Bool). cond b 1 0) (eq-eqb (wind_number w) k e) in omega arith
-count_in k (w ∷ ws) (inr h) = let i = count_in k ws h in omega arith
+count_in k (w ∷ ws) (inl e) = rw (eq-eqb (wind_number w) k e) (omega arith)
+count_in k (w ∷ ws) (inr h) = omega (arith, count_in k ws h)
 count_in k [] h = absurd h
 
 count_out : (k : ℕ) (ws : List Wind) → (InForce k ws → ⊥) → count k (wind_numbers ws) ≡ 0
 count_out k [] h = refl
-count_out k (w ∷ ws) h = go (eqb (wind_number w) k) refl (count_out k ws (λ i. h (inr i)))
-  where
-    go : (b : Bool) → eqb (wind_number w) k ≡ b → count k (wind_numbers ws) ≡ 0 → cond b 1 0 + count k (wind_numbers ws) ≡ 0
-    go true e z = absurd (h (inl (eqb-true _ _ e)))
-    go false e z = omega arith
+count_out k (w ∷ ws) h = rw (ne_eqb (wind_number w) k (λ e. h (inl e))) (omega (arith, count_out k ws (λ i. h (inr i))))
 
 pub winds-balanced : WindsBalanced
 winds-balanced l code numbers n =

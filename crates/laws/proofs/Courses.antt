@@ -1,8 +1,7 @@
 -- Courses of steps from one state.
-use Rattle.std.proofs.Common.{◌≡◌, ℕ, zero, suc, ◌+◌, ◌≤◌, List, [], Some, None, Option, sym, refl, ap, ◌∙◌, subst, append_assoc, suc-add, zero-add, arith}
+use Rattle.std.proofs.Common.{◌≡◌, ℕ, zero, suc, ◌+◌, ◌≤◌, List, [], Some, None, Option, sym, refl, ap, ◌∙◌, append_assoc, suc-add, zero-add, arith}
 use Rattle.code.specs.declared.instruction.Instruction.{Instruction}
 use Rattle.machine.specs.declared.end.End.{End}
-use Rattle.machine.specs.declared.end.End.TheVariants.{Finished}
 use Rattle.machine.specs.State.{State, Limits}
 use Rattle.machine.specs.Apply.{Event}
 use Rattle.machine.specs.Step.{Outcome, went, finished, refused, step}

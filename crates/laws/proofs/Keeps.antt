@@ -1,5 +1,5 @@
 -- Each act that is planned in a sound state meets what it has to, so each step leads from a sound state to a sound one.
-use Rattle.std.proofs.Common.{◌≡◌, ℕ, ◌≤◌, List, [], ◌∷◌, ◌++◌, reverse, length, Some, None, Option, sym, ap, ◌∙◌, subst, arith}
+use Rattle.std.proofs.Common.{◌≡◌, ℕ, ◌≤◌, List, [], ◌∷◌, ◌++◌, reverse, length, Some, None, Option, sym, ap, ◌∙◌, arith}
 use mathlib.Core.List.{reverse-cons, reverse-reverse}
 use Rattle.std.proofs.lemmas.List.{length-map, length-reverse}
 use Rattle.std.specs.List.{slice_get, AllByRecursion as All}
@@ -22,7 +22,7 @@ use Rattle.machine.specs.Names.{mode_names}
 use Rattle.machine.specs.Going.{reg, zeroth}
 use Rattle.machine.specs.Returning.{spends, wind_at, again}
 use Rattle.machine.specs.Throwing.{shared, common}
-use Rattle.machine.specs.Apply.{below, replaced, saved_frames, frames_after, winds_after}
+use Rattle.machine.specs.Apply.{below, replaced, frames_after, winds_after}
 use Rattle.laws.specs.Counts.{Made}
 use Rattle.laws.specs.Reached.{AtRest}
 use Rattle.laws.proofs.Counting.{Numbered, numbered_less, count-reverse, Prefix, prefix_count, prefix_next, prefix_common, same-common, map-reverse}

@@ -1,5 +1,5 @@
 -- Three lists of things with the same names, joined row by row.
-use Rattle.std.proofs.Common.{◌≡◌, ℕ, Bool, true, false, cond, eqb, List, [], ◌∷◌, ◌++◌, Some, None, sym, refl, ap, ◌∙◌, subst, subst₂, arith}
+use Rattle.std.proofs.Common.{◌≡◌, ℕ, Bool, List, [], ◌∷◌, ◌++◌, Some, None, refl, arith}
 use Rattle.machine.specs.Named.{find, without, changed, changed_all}
 use Rattle.machine.specs.State.{capture_name, for_many}
 use Rattle.laws.specs.Rows.{joined, Matched, row, many, kept_name, flag_name, RowsJoined}

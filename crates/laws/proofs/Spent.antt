@@ -1,30 +1,25 @@
 -- A one-shot continuation comes back at most once.
-use Rattle.std.proofs.Common.{◌≡◌, ℕ, zero, suc, ◌≤◌, Bool, true, false, cond, eqb, ltb, leb, List, [], ◌∷◌, reverse, length, Some, None, Ok, Err, Option, sym, refl, ap, ◌∙◌, subst, inl, inr, arith}
+use Rattle.std.proofs.Common.{◌≡◌, ℕ, zero, suc, ◌≤◌, Bool, true, false, cond, ltb, leb, List, [], ◌∷◌, reverse, length, Some, None, Ok, Err, Option, sym, refl, ap, ◌∙◌, inl, inr, arith}
 use Rattle.std.proofs.lemmas.List.{length-map, length-reverse}
-use Rattle.std.specs.Option.{ok_or}
 use Rattle.std.proofs.lemmas.Option.{slice_get_past}
 use Rattle.std.proofs.lemmas.Bool.{cond-true, eq-eqb, le-ltb}
 use Rattle.cell.specs.declared.name.Name.{Name}
 use Rattle.cell.specs.declared.value.Value.{Value}
 use Rattle.cell.specs.declared.frame.Frame.{Frame}
 use Rattle.cell.specs.declared.frame.Frame.TheVariants.{Mark}
-use Rattle.cell.specs.declared.wind.Wind.{Wind}
 use Rattle.code.specs.declared.instruction.Instruction.{Instruction}
 use Rattle.machine.specs.declared.act.Act.{Act}
 use Rattle.machine.specs.declared.end.End.{End}
-use Rattle.machine.specs.declared.end.End.TheVariants.{NotHeld, StepLimit}
-use Rattle.machine.specs.declared.name_move.NameMove.{NameMove}
+use Rattle.machine.specs.declared.end.End.TheVariants.{StepLimit}
 use Rattle.machine.specs.declared.name_move.NameMove.TheVariants.{Keep as KeepNames, Use}
-use Rattle.machine.specs.declared.mode.Mode.{Mode}
 use Rattle.machine.specs.declared.mode.Mode.TheVariants.{Returning, Throwing}
 use Rattle.machine.specs.Named.{find}
 use Rattle.machine.specs.State.{State, Capture, Limits, capture_name, wind_number, wind_numbers, start}
-use Rattle.machine.specs.Checks.{◌>>=◌}
-use Rattle.machine.specs.Acts.{Plan, moves, framing, naming, does}
-use Rattle.machine.specs.Returning.{spends, wind_at, return}
-use Rattle.machine.specs.Throwing.{common, shared, unwind}
-use Rattle.machine.specs.Plan.{plan, plan_in}
-use Rattle.machine.specs.Apply.{frames_after, held_after, apply, Event}
+use Rattle.machine.specs.Acts.{Plan}
+use Rattle.machine.specs.Returning.{spends, wind_at}
+use Rattle.machine.specs.Throwing.{common, shared}
+use Rattle.machine.specs.Plan.{plan}
+use Rattle.machine.specs.Apply.{frames_after, apply, Event}
 use Rattle.machine.specs.Admission.{refusal}
 use Rattle.machine.specs.Step.{Outcome, went, finished, refused, admit, settle, most_steps, step}
 use Rattle.machine.specs.Course.{follow, course}
@@ -53,7 +48,7 @@ went_is l code s t b es = limit (leb most_steps s.counts.steps)
 
 common_self : (xs : List ℕ) → common xs xs ≡ length xs
 common_self [] = refl
-common_self (x ∷ xs) = cond-true (eqb x x) (suc (common xs xs)) 0 (eq-eqb x x refl) ∙ ap suc (common_self xs)
+common_self (x ∷ xs) = rw (eq-eqb x x refl, common_self xs)
 
 -- an act that spends a name
 abbrev Spends : Capture → Name → Plan → Type 0
@@ -63,6 +58,7 @@ module _ (s : State) (code : List Instruction) (n : Name) (c : Capture) (found :
   spends_mark : (fs : List Frame) → s.mode ≡ Returning → s.frames ≡ Mark n ∷ fs → Spends c n (plan code s)
   spends_mark fs e f =
       rw (e, f, found) (_, refl, refl)
+
   spends-throw : (v : Value) → s.mode ≡ Throwing n v → wind_numbers s.winds ≡ wind_numbers c.winds → Spends c n (plan code s)
   spends-throw v e f =
       let deep : shared s.winds c.winds ≡ length s.winds =

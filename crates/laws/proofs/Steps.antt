@@ -1,5 +1,5 @@
 -- What holds of every step that is made, and so of every course of steps.
-use Rattle.std.proofs.Common.{◌≡◌, ℕ, zero, suc, ◌+◌, ◌<◌, ◌≤◌, Bool, true, false, cond, leb, List, [], ◌∷◌, ◌++◌, map, length, ℤ, Some, None, Ok, Err, Option, refl, ap, subst, arith, length-append}
+use Rattle.std.proofs.Common.{◌≡◌, ℕ, zero, suc, ◌+◌, ◌<◌, ◌≤◌, Bool, true, false, cond, leb, List, [], ◌∷◌, ◌++◌, map, length, ℤ, Some, None, Ok, Err, Option, refl, ap, arith, length-append}
 use Rattle.std.specs.List.{AllByRecursion as All}
 use Rattle.std.proofs.lemmas.Bool.{leb-true, leb-false, ltb-true}
 use Rattle.cell.specs.declared.frame.Frame.{Frame}
@@ -110,23 +110,23 @@ traced_stay s = record { each = λ k. refl; entered = omega arith; left = omega 
 
 entering-++ : (es fs : List Event) → entering (es ++ fs) ≡ entering es + entering fs
 entering-++ [] fs = omega arith
-entering-++ (enters n ∷ es) fs = let i = entering-++ es fs in omega arith
+entering-++ (enters n ∷ es) fs = omega (arith, entering-++ es fs)
 entering-++ (leaves n ∷ es) fs = entering-++ es fs
 
 leaving-++ : (es fs : List Event) → leaving (es ++ fs) ≡ leaving es + leaving fs
 leaving-++ [] fs = omega arith
 leaving-++ (enters n ∷ es) fs = leaving-++ es fs
-leaving-++ (leaves n ∷ es) fs = let i = leaving-++ es fs in omega arith
+leaving-++ (leaves n ∷ es) fs = omega (arith, leaving-++ es fs)
 
 entering_of-++ : (k : ℕ) (es fs : List Event) → entering_of k (es ++ fs) ≡ entering_of k es + entering_of k fs
 entering_of-++ k [] fs = omega arith
-entering_of-++ k (enters n ∷ es) fs = let i = entering_of-++ k es fs in omega arith
+entering_of-++ k (enters n ∷ es) fs = omega (arith, entering_of-++ k es fs)
 entering_of-++ k (leaves n ∷ es) fs = entering_of-++ k es fs
 
 leaving_of-++ : (k : ℕ) (es fs : List Event) → leaving_of k (es ++ fs) ≡ leaving_of k es + leaving_of k fs
 leaving_of-++ k [] fs = omega arith
 leaving_of-++ k (enters n ∷ es) fs = leaving_of-++ k es fs
-leaving_of-++ k (leaves n ∷ es) fs = let i = leaving_of-++ k es fs in omega arith
+leaving_of-++ k (leaves n ∷ es) fs = omega (arith, leaving_of-++ k es fs)
 
 traced_++ : (s t u : State) (n : ℕ) (es fs : List Event) → Traced s t 1 es → Traced t u n fs → Traced s u (suc n) (es ++ fs)
 traced_++ s t u n es fs p q = record {
@@ -187,7 +187,7 @@ module _ (l : Limits) (s : State) (k : Within l s) where
   Fitting c = (length c.frames ≤ l.frames) × (length c.winds ≤ l.winds)
 
   room : (g : ℕ) → frames_pass l s g ≡ true → length s.frames + g ≤ l.frames
-  room zero e = let h = k.frames in omega arith
+  room zero e = omega (arith, k.frames)
   room (suc g) e = leb-true (length s.frames + suc g) l.frames e
 
   length-saved : (o : Option Capture) (n : ℕ) → find capture_name s.held n ≡ o → length (saved_frames o s.frames) ≤ l.frames
@@ -198,8 +198,8 @@ module _ (l : Limits) (s : State) (k : Within l s) where
   length-frames Keep h = omega arith
   length-frames (Push f) h = omega arith
   length-frames (PushBoth f g) h = omega arith
-  length-frames Pop h = let i = length-below s.frames in omega arith
-  length-frames (Replace f) h = let i = length-replaced f s.frames in omega arith
+  length-frames Pop h = omega (arith, length-below s.frames)
+  length-frames (Replace f) h = omega (arith, length-replaced f s.frames)
   length-frames (Restore n) h = length-saved (find capture_name s.held n.0) n.0 refl
 
   length-winds : (w : WindMove) → winds_pass l s w ≡ true → length (winds_after s w) ≤ l.winds

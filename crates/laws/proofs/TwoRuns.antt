@@ -1,5 +1,5 @@
 -- Two runs, at every two moments.
-use Rattle.std.proofs.Common.{◌≡◌, ℕ, zero, suc, Bool, true, false, List, [], ◌∷◌, take, ℤ, Some, None, sym, refl, ap, ◌∙◌, subst, subst₂, arith}
+use Rattle.std.proofs.Common.{◌≡◌, ℕ, zero, suc, Bool, true, false, List, [], ◌∷◌, take, ℤ, Some, sym, refl, ap, ◌∙◌, subst, subst₂}
 use Rattle.std.specs.List.{slice_get}
 use Rattle.code.specs.declared.instruction.Instruction.{Instruction}
 use Rattle.machine.specs.declared.end.End.{End}
