@@ -106,7 +106,7 @@ last_address s = trying s.mode s.tried
 abbrev pub ending : Option End → State → Option Ending
 ending end s = option_map (λ e. record { end = e; address = last_address s }) end
 
--- the figures of names and of winds
+-- the figures of names
 abbrev pub name_tally : State → NameTally
 name_tally s = record { made = s.counts.made; used = s.counts.used; forgotten = s.counts.forgotten; held = length s.held }
 
@@ -118,11 +118,11 @@ wind_tally s = record { entered = s.counts.entered; left = s.counts.left; curren
 abbrev pub tallied : State → Option End → Tally
 tallied s end = record { steps = s.counts.steps; names = name_tally s; winds = wind_tally s; ending = ending end s }
 
--- what look and force answer: the frame or the wind at an index, from the bottom
+-- what look answers: the frame at an index, from the bottom
 abbrev pub looked : State → ℕ → Result Frame IndexRefusal
 looked s i = ok_or (slice_get (reverse s.frames) i) Beyond
 
--- what force answers
+-- what force answers: the wind at an index, from the bottom
 abbrev pub forced : State → ℕ → Result Wind IndexRefusal
 forced s i = ok_or (slice_get (reverse s.winds) i) Beyond
 

@@ -5,10 +5,10 @@ ghost use Rattle.machine.specs.Numbers.{index_refusal_number};
 
 use thiserror::Error;
 
-/// Why `look` or `force` is refused.
+/// Why `look` or `force` is refused: for one reason only, in a type apart from the refusals of `run`.
 #[derive(Clone, Copy, PartialEq, Eq, Debug, Error)]
 pub enum IndexRefusal {
-    #[error("nothing stands at the index")]
+    #[error("there is nothing at the index")]
     Beyond,
 }
 

@@ -10,9 +10,9 @@ use thiserror::Error;
 pub enum RunRefusal {
     #[error("the run has ended")]
     HasEnded,
-    #[error("the budget is not from 1 to 1000000")]
+    #[error("the budget is out of range")]
     BudgetOutOfRange,
-    #[error("the buffer has fewer than 12 bytes")]
+    #[error("the buffer is too short")]
     BufferTooShort,
 }
 
