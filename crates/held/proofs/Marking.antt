@@ -1,7 +1,8 @@
 -- The search for a Mark, frame by frame, and that the order of the frames does not matter to it.
-use Rattle.std.proofs.Common.{◌≡◌, ℕ, zero, suc, Bool, true, false, cond, eqb, List, [], ◌∷◌, ◌++◌, reverse, drop, sym, refl, ap, ◌∙◌}
+use Rattle.std.proofs.Common.{◌≡◌, ℕ, zero, suc, ◌+◌, ◌||◌, arith, Bool, true, false, cond, eqb, List, [], ◌∷◌, ◌++◌, reverse, length, drop, sym, refl, ap, ◌∙◌}
 use mathlib.Core.List.{reverse-cons}
-use Rattle.std.specs.List.{flat_map, slice_get}
+use Rattle.std.specs.List.{flat_map, slice_get, list_any, range_with_len}
+use Rattle.std.proofs.lemmas.List.{drop_all}
 use Rattle.cell.specs.declared.frame.Frame.{Frame}
 use Rattle.machine.specs.Apply.{marked_in}
 use Rattle.machine.specs.Names.{mark_names, stands}
@@ -52,3 +53,21 @@ marked_reverse (f ∷ fs) n =
     ∙ ap (λ b. cond b true (marked_in (f ∷ []) n)) (marked_reverse fs n)
     ∙ either (marked_in fs n) (marked_in (f ∷ []) n)
     ∙ sym (marked_append (f ∷ []) fs n)
+
+-- the same choice in another word
+either_is : (a b : Bool) → cond a true b ≡ (a || b)
+either_is true b = refl
+either_is false b = refl
+
+-- a search by index
+any_from : (fs : List Frame) (n i k : ℕ) → i + k ≡ length fs → list_any (λ j. marks_at (slice_get fs j) n) (range_with_len i k) ≡ marked_in (drop i fs) n
+any_from fs n i zero e = sym (ap (λ gs. marked_in gs n) (drop_all i fs (omega arith)))
+any_from fs n i (suc k) e =
+    let one : i + 1 ≡ suc i = omega arith in
+    ap (λ b. marks_at (slice_get fs i) n || b) (any_from fs n (i + 1) k (omega arith))
+    ∙ ap (λ j. marks_at (slice_get fs i) n || marked_in (drop j fs) n) one
+    ∙ sym (marked_step fs i n ∙ either_is (marks_at (slice_get fs i) n) (marked_in (drop (suc i) fs) n))
+
+-- from the first index, and in either order
+pub marked_any : (fs : List Frame) (n : ℕ) → marked_in (reverse fs) n ≡ list_any (λ j. marks_at (slice_get fs j) n) (range_with_len 0 (length fs))
+marked_any fs n = marked_reverse fs n ∙ sym (any_from fs n 0 (length fs) (omega arith))

@@ -1,34 +1,15 @@
--- A function written over the first items of a list, all at once or one by one.
-use Rattle.std.proofs.Common.{◌≡◌, ℕ, ◌+◌, ◌-◌, ◌<◌, ◌≤◌, Bool, true, false, cond, List, ◌++◌, map, length, get_or, take, drop, set, sym, refl, ap, ◌∙◌, arith}
-use borrow.Rule.Slice.PartMut.{mid_of, post_of}
+-- Rows promoted one by one.
+use Rattle.std.proofs.Common.{◌≡◌, ℕ, ◌+◌, ◌<◌, Bool, true, false, cond, List, ◌++◌, map, length, get_or, take, drop, set, sym, refl, ap, ◌∙◌, arith}
 use Rattle.std.proofs.lemmas.List.Edits.{map_over_more}
-use Rattle.std.proofs.lemmas.List.{length-append, length-drop, length-map, length-take-le, get_or_default, take_at}
+use Rattle.std.proofs.lemmas.List.{length-append, length-drop, length-map, length-take-le, get_or_default}
 use Rattle.std.proofs.lemmas.Bool.{cond-true, cond-false}
 use Rattle.machine.specs.Named.{changed}
 use Rattle.held.specs.declared.held_row.HeldRow.{HeldRow}
 use Rattle.held.specs.Rows.{row_name, for_many}
-use Rattle.held.proofs.Rows.{blank}
 
-module _ {A : Type 0} (f : A → A) where
-  -- `ys` is what the first `k` items became
-  module _ (xs ys : List A) (k : ℕ) (few : k ≤ length xs) (written : ys ≡ map f (mid_of 0 (k - 0) xs)) where
-    -- the whole list afterwards
-    whole : ys ++ post_of 0 (k - 0) xs ≡ map f (take k xs) ++ drop k xs
-    whole =
-        let n : k - 0 ≡ k = omega arith in
-        ap (λ zs. zs ++ post_of 0 (k - 0) xs) (written ∙ ap (λ m. map f (take m xs)) n) ∙ ap (λ m. map f (take k xs) ++ drop m xs) n
-
-    -- so many were changed
-    length_front : length (map f (take k xs)) ≡ k
-    length_front = length-map (take k xs) f ∙ length-take-le k xs few
-
-    -- it is as long as before
-    pub length-written : length (ys ++ post_of 0 (k - 0) xs) ≡ length xs
-    length-written = let n = length_front in ap length whole ∙ length-append (map f (take k xs)) (drop k xs) ∙ simp length-drop (omega arith)
-
-    -- and its first items are the changed ones
-    pub take-written : take k (ys ++ post_of 0 (k - 0) xs) ≡ map f (take k xs)
-    take-written = ap (take k) whole ∙ take_at (map f (take k xs)) (drop k xs) k length_front
+-- a row of no continuation
+abbrev pub blank : HeldRow
+blank = record { name = record { 0 = 0 }; once = false }
 
 -- one row further in a promotion; `test` tells which names have a Mark
 module _ (test : ℕ → Bool) (xs ys : List HeldRow) (i : ℕ) (l : i < length xs) (so : ys ≡ map (changed row_name test for_many) (take i xs) ++ drop i xs) where

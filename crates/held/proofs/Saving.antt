@@ -4,12 +4,11 @@ use Rattle.std.proofs.lemmas.Bool.{eq-eqb, cond-true}
 use Rattle.cell.specs.declared.frame.Frame.{Frame}
 use Rattle.cell.specs.declared.name.Name.{Name}
 use Rattle.cell.specs.declared.wind.Wind.{Wind}
-use Rattle.store.specs.declared.frame_refusal.FrameRefusal.{FrameRefusal}
+use Rattle.store.specs.declared.refused.Refused.{Refused}
 use Rattle.store.specs.declared.refusal.Refusal.{Refusal}
 use Rattle.store.specs.declared.refusal.Refusal.TheVariants.{HeldFull, NameTaken}
-use Rattle.store.specs.declared.wind_refusal.WindRefusal.{WindRefusal}
 use Rattle.store.specs.Meaning.{Meaning, Held, Outcome, saved_under, without, with_held, saved, saved_by, released, released_by}
-use Rattle.store.specs.Typed.{outcome_as, frame_refusal, wind_refusal}
+use Rattle.store.specs.Typed.{outcome_as, refused_of}
 use Rattle.held.specs.declared.half_save.HalfSave.{HalfSave}
 use Rattle.held.specs.declared.save_refusal.SaveRefusal.TheVariants.{Winds}
 use Rattle.held.specs.declared.wind_save_refused.WindSaveRefused.{WindSaveRefused}
@@ -59,14 +58,14 @@ module _ {A : Type 0} where
   accepted wrap (Err r, m) left e = absurd (apart _ _ (sym (ap (λ o. o.0) e)))
 
 -- a half-save that was made
-made : (n : Name) (s : Result Unit FrameRefusal × Meaning Frame) (half : HalfSave) (g : Meaning Frame) → (Ok half, g) ≡ owing n s → (half.name ≡ n) × (s ≡ (Ok tt, g))
+made : (n : Name) (s : Result Unit (Refused Frame) × Meaning Frame) (half : HalfSave) (g : Meaning Frame) → (Ok half, g) ≡ owing n s → (half.name ≡ n) × (s ≡ (Ok tt, g))
 made n (Ok u, m) half g e =
     let same : half ≡ record { name = n } = let k = ap (λ o. o.0) e in cc in
     (ap (λ h. h.name) same, ap (λ k. (Ok tt, k)) (sym (ap (λ o. o.1) e)))
 made n (Err r, m) half g e = absurd (apart _ _ (ap (λ o. o.0) e))
 
 -- a half-save that was handed back
-handed : (half : HalfSave) (s : Result Unit WindRefusal × Meaning Wind) (back : WindSaveRefused) (v : Meaning Wind) → (Err back, v) ≡ handing_back half s → (back.owed ≡ half) × (s ≡ (Err back.refusal, v))
+handed : (half : HalfSave) (s : Result Unit (Refused Wind) × Meaning Wind) (back : WindSaveRefused) (v : Meaning Wind) → (Err back, v) ≡ handing_back half s → (back.owed ≡ half) × (s ≡ (Err back.refusal, v))
 handed half (Ok u, m) back v e = absurd (apart _ _ (sym (ap (λ o. o.0) e)))
 handed half (Err r, m) back v e =
     let same : back ≡ record { owed = half; refusal = r } = let k = ap (λ o. o.0) e in cc in
@@ -74,15 +73,15 @@ handed half (Err r, m) back v e =
 
 -- the wind store refuses, and the half-save is given up: `f` and `w` before, `g` with the first save, `h` and `v` after
 pub both_refused : (f g h : Meaning Frame) (w v : Meaning Wind) (n : Name) (half : HalfSave) (back : WindSaveRefused)
-    → (Ok half, g) ≡ owing n (outcome_as frame_refusal (saved f n.0))
-    → (Err back, v) ≡ handing_back half (outcome_as wind_refusal (saved w half.name.0))
+    → (Ok half, g) ≡ owing n (outcome_as refused_of (saved f n.0))
+    → (Err back, v) ≡ handing_back half (outcome_as refused_of (saved w half.name.0))
     → h ≡ (released g back.owed.name.0).1
     → (Err (Winds back.refusal), (h, v)) ≡ saved_both f w n.0
 both_refused f g h w v n half back first second third =
-    let a = made n (outcome_as frame_refusal (saved f n.0)) half g first in
-    let b = handed half (outcome_as wind_refusal (saved w half.name.0)) back v second in
+    let a = made n (outcome_as refused_of (saved f n.0)) half g first in
+    let b = handed half (outcome_as refused_of (saved w half.name.0)) back v second in
     let named : back.owed.name.0 ≡ n.0 = ap (λ k. k.name.0) b.0 ∙ ap (λ k. k.0) a.0 in
-    let again : h ≡ f = third ∙ ap (λ k. (released g k).1) named ∙ undone f g n.0 (accepted frame_refusal (saved f n.0) g a.1) in
-    let winds : outcome_as wind_refusal (saved w n.0) ≡ (Err back.refusal, v) = ap (λ k. outcome_as wind_refusal (saved w k.0)) (sym a.0) ∙ b.1 in
+    let again : h ≡ f = third ∙ ap (λ k. (released g k).1) named ∙ undone f g n.0 (accepted refused_of (saved f n.0) g a.1) in
+    let winds : outcome_as refused_of (saved w n.0) ≡ (Err back.refusal, v) = ap (λ k. outcome_as refused_of (saved w k.0)) (sym a.0) ∙ b.1 in
     ap (λ k. (Err (Winds back.refusal), (k, v))) again
     ∙ sym (ap (frames_first f w n.0) a.1 ∙ ap (winds_next f g) winds)

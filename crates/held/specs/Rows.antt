@@ -1,7 +1,7 @@
 -- The rows of a table of held continuations.
-use Rattle.std.specs.Prelude.{ℕ, ◌+◌, false, cond, List, [], ◌∷◌, take, Some, None, Option, ◌==◌}
+use Rattle.std.specs.Prelude.{ℕ, false, cond, List, [], ◌∷◌, ◌++◌, length, Ok, Err, Result, nat_lt}
+use Rattle.held.specs.declared.full.Full.{Full}
 use Rattle.held.specs.declared.held_row.HeldRow.{HeldRow}
-use Rattle.held.specs.declared.held_table.HeldTable.{HeldTable}
 
 -- the name of a row, as a number
 abbrev pub row_name : HeldRow → ℕ
@@ -11,11 +11,6 @@ row_name r = r.name.0
 abbrev pub for_many : HeldRow → HeldRow
 for_many r = record { name = r.name; once = false }
 
--- the rows of a table, the oldest first
-abbrev pub listed : HeldTable → List HeldRow
-listed t = take t.count t.rows
-
--- the index of the first row of a name, where the rows are counted from some number on
-abbrev pub index_from : ℕ → List HeldRow → ℕ → Option ℕ
-index_from i [] n = None
-index_from i (r ∷ rs) n = cond (row_name r == n) (Some i) (index_from (i + 1) rs n)
+-- one row more, unless there are n already
+abbrev pub appended : ℕ → List HeldRow → HeldRow → Result Unit Full × List HeldRow
+appended n rs r = cond (nat_lt (length rs) n) (Ok tt, rs ++ (r ∷ [])) (Err (record {}), rs)

@@ -3,7 +3,7 @@
 use cell::name::Name;
 
 /// A held name; once, if it serves for one throw only.
-#[derive(Clone, Copy)]
+#[derive(Clone, Copy, Default, PartialEq, Eq, Debug)]
 pub struct HeldRow {
     pub name: Name,
     pub once: bool,

@@ -1,8 +1,9 @@
 //! What a run keeps of its held continuations, the questions about its two stores that a throw asks, and a save in both.
-//! It rests on `cell`, `store` and `bounded`, and on the definitions of `machine`.
+//! It rests on `cell` and `store`, and on the definitions of `machine`.
 #![tactic(auto)]
 
 pub mod common;
+pub mod full;
 pub mod half_save;
 pub mod held_row;
 pub mod held_table;

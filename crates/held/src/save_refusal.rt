@@ -1,21 +1,22 @@
 //! Why a save in two stores is refused.
 ghost use Rattle.std.specs.Prelude.{◌≡◌};
-ghost use Rattle.held.specs.declared.save_refusal.SaveRefusal.TheVariants.{Frames};
+ghost use Rattle.held.specs.declared.save_refusal.SaveRefusal.TheVariants.{Frames, Winds};
 
-use store::frame_refusal::FrameRefusal;
-use store::wind_refusal::WindRefusal;
+use cell::frame::Frame;
+use cell::wind::Wind;
+use store::refused::Refused;
 
 /// The refusal of the store that refused.
 #[derive(Clone, Copy)]
 pub enum SaveRefusal {
-    Frames(FrameRefusal),
-    Winds(WindRefusal),
+    Frames(Refused<Frame>),
+    Winds(Refused<Wind>),
 }
 
-impl From<FrameRefusal> for SaveRefusal {
+impl From<Refused<Frame>> for SaveRefusal {
     ghost from_gives = { λ e y. y ≡ Frames e };
 
-    fn from(refusal: FrameRefusal) -> SaveRefusal {
-        SaveRefusal::Frames(refusal)
+    fn from(refused: Refused<Frame>) -> SaveRefusal {
+        SaveRefusal::Frames(refused)
     }
 }

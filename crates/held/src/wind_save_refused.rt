@@ -1,10 +1,11 @@
 //! Why a half-save is still owed.
 use crate::half_save::HalfSave;
-use store::wind_refusal::WindRefusal;
+use cell::wind::Wind;
+use store::refused::Refused;
 
 /// The wind store refused to save, and the half-save is handed back.
 #[must_use]
 pub struct WindSaveRefused {
     pub owed: HalfSave,
-    pub refusal: WindRefusal,
+    pub refusal: Refused<Wind>,
 }

@@ -2,8 +2,9 @@
 use Rattle.std.specs.Prelude.{ℕ}
 use Rattle.store.specs.declared.refusal.Refusal.{Refusal}
 use Rattle.store.specs.declared.refusal.Refusal.TheVariants.{Full, Empty, HeldFull, NameTaken, NotHeld as NameNotHeld, NoIndex}
-use Rattle.store.specs.declared.frame_refusal.FrameRefusal.{FrameRefusal}
-use Rattle.store.specs.declared.wind_refusal.WindRefusal.{WindRefusal}
+use Rattle.cell.specs.declared.frame.Frame.{Frame}
+use Rattle.cell.specs.declared.wind.Wind.{Wind}
+use Rattle.store.specs.declared.refused.Refused.{Refused}
 use Rattle.machine.specs.declared.end.End.{End}
 use Rattle.machine.specs.declared.end.End.TheVariants.{FrameLimit, WindLimit, HeldLimit, WrongFrame, NotHeld}
 
@@ -17,9 +18,9 @@ end_by full NameNotHeld = NotHeld
 end_by full NoIndex = WrongFrame
 
 -- that of a refusal of the frame store
-abbrev pub frame_end : FrameRefusal → End
-frame_end e = end_by FrameLimit e.0
+abbrev pub frame_end : Refused Frame → End
+frame_end e = end_by FrameLimit e.why
 
 -- that of a refusal of the wind store
-abbrev pub wind_end : WindRefusal → End
-wind_end e = end_by WindLimit e.0
+abbrev pub wind_end : Refused Wind → End
+wind_end e = end_by WindLimit e.why

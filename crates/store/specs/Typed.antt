@@ -2,9 +2,8 @@
 use Rattle.std.specs.Prelude.{◌≡◌, ℕ, List, map, Ok, Err, Result}
 use Rattle.cell.specs.Filled.{filled}
 use Rattle.cell.specs.declared.cell.Cell.{Cell}
-use Rattle.store.specs.declared.frame_refusal.FrameRefusal.{FrameRefusal}
 use Rattle.store.specs.declared.refusal.Refusal.{Refusal}
-use Rattle.store.specs.declared.wind_refusal.WindRefusal.{WindRefusal}
+use Rattle.store.specs.declared.refused.Refused.{Refused}
 use Rattle.store.specs.Meaning.{Meaning, Held, Outcome}
 
 -- a held pair, each cell of its list read
@@ -40,10 +39,6 @@ outcome_as wrap o = (refused_as wrap o.0, o.1)
 abbrev pub Written : {E : Type 0} → (Cell → E) → (E → List ℕ) → Meaning Cell → Type 0
 Written read words m = read_as (λ c. filled (words (read c))) m ≡ m
 
--- the refusals of a store of frames and of a store of winds
-abbrev pub frame_refusal : Refusal → FrameRefusal
-frame_refusal e = record { 0 = e }
-
--- a refusal of a store of winds
-abbrev pub wind_refusal : Refusal → WindRefusal
-wind_refusal e = record { 0 = e }
+-- a refusal of a store of elements of one kind
+abbrev pub refused_of : {E : Type 0} → Refusal → Refused E
+refused_of e = record { why = e; of = record {} }

@@ -2,10 +2,7 @@
 //! It rests on `cell`.
 #![tactic(auto)]
 
-mod answers;
-pub mod frame_refusal;
-pub mod listed;
 pub mod refusal;
+pub mod refused;
 pub mod store;
 pub mod typed;
-pub mod wind_refusal;

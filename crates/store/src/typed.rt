@@ -1,95 +1,160 @@
 //! A store as a list of elements of one kind: one text for every store and every kind.
-//! Each call is the call of the same name on the store, at elements.
 
-ghost use Rattle.std.specs.Prelude.{◌≡◌, map};
+ghost use Rattle.std.specs.Prelude.{◌≡◌, length};
 ghost use Rattle.store.specs.Meaning.{pushed, popped, saved, restored, taken, released, cell_in, saved_length, saved_cell_in, top as uppermost};
-ghost use Rattle.store.specs.Typed.{read_as, refused_as, outcome_as, Written};
+ghost use Rattle.store.specs.Typed.{refused_as, refused_of, outcome_as, read_as, Written};
 
-use crate::answers::{element_in, refused_in};
-use crate::listed::Listed;
+use crate::refused::Refused;
 use crate::store::Store;
+use cell::element::Element;
 use cell::name::Name;
+use std::marker::{Model, PhantomData};
 
-/// Adds an element on top.
-pub fn push<S: Store, E: Listed>(store: &mut S, element: E) -> Result<(), E::Refused>
-    ensures call { (result, read_as E.Element.read (S.Store.meaning store.new)) ≡ outcome_as E.Listed.refused (pushed (read_as E.Element.read (S.Store.meaning store.old)) element) }
-    ensures written { Written E.Element.read E.Element.written (S.Store.meaning store.old) → Written E.Element.read E.Element.written (S.Store.meaning store.new) }
-    ensures memory { S.Store.fixed store.new ≡ S.Store.fixed store.old }
-{
-    refused_in::<(), E>(store.push(element.to_cell()))
+/// A store, each cell of which is read as an element. Each call is the call of the same name on the store, at elements.
+#[derive(Drop)]
+pub struct Typed<S: Store, E: Element> {
+    store: S,
+    of: PhantomData<E>,
 }
 
-/// Removes and answers the element on top.
-pub fn pop<S: Store, E: Listed>(store: &mut S) -> Result<E, E::Refused>
-    ensures call { (result, read_as E.Element.read (S.Store.meaning store.new)) ≡ outcome_as E.Listed.refused (popped (read_as E.Element.read (S.Store.meaning store.old))) }
-    ensures written { Written E.Element.read E.Element.written (S.Store.meaning store.old) → Written E.Element.read E.Element.written (S.Store.meaning store.new) }
-    ensures memory { S.Store.fixed store.new ≡ S.Store.fixed store.old }
-{
-    element_in::<E>(store.pop())
+impl<S: Store, E: Element> Model for Typed<S, E> {
+    ghost use Rattle.store.specs.Elements.{Elements};
+    ghost use Rattle.store.specs.Typed.{read_as};
+
+    ghost Value = { Elements S E };
+
+    ghost view = { λ t. record { store = t.store; list = read_as E.read (S.meaning t.store) } };
 }
 
-/// Keeps the current list under a name.
-pub fn save<S: Store, E: Listed>(store: &mut S, name: Name) -> Result<(), E::Refused>
-    ensures call { (result, read_as E.Element.read (S.Store.meaning store.new)) ≡ outcome_as E.Listed.refused (saved (read_as E.Element.read (S.Store.meaning store.old)) name.0) }
-    ensures written { Written E.Element.read E.Element.written (S.Store.meaning store.old) → Written E.Element.read E.Element.written (S.Store.meaning store.new) }
-    ensures memory { S.Store.fixed store.new ≡ S.Store.fixed store.old }
-{
-    refused_in::<(), E>(store.save(name))
-}
+impl<S: Store, E: Element> Typed<S, E> {
+    /// A store as a list of elements.
+    pub fn new(store: S) -> Self
+        ensures store { result.store ≡ store }
+        ensures list { result.list ≡ read_as E.read (S.meaning store) }
+    {
+        Typed {
+            store,
+            of: PhantomData,
+        }
+    }
 
-/// Makes the list saved under a name current.
-pub fn restore<S: Store, E: Listed>(store: &mut S, name: Name) -> Result<(), E::Refused>
-    ensures call { (result, read_as E.Element.read (S.Store.meaning store.new)) ≡ outcome_as E.Listed.refused (restored (read_as E.Element.read (S.Store.meaning store.old)) name.0) }
-    ensures written { Written E.Element.read E.Element.written (S.Store.meaning store.old) → Written E.Element.read E.Element.written (S.Store.meaning store.new) }
-    ensures memory { S.Store.fixed store.new ≡ S.Store.fixed store.old }
-{
-    refused_in::<(), E>(store.restore(name))
-}
+    /// Gives the store back.
+    pub fn into_store(self) -> S
+        ensures { result ≡ self.store }
+    {
+        let Typed { store, of: _ } = self;
+        store
+    }
 
-/// As restore, and lets the name go.
-pub fn take<S: Store, E: Listed>(store: &mut S, name: Name) -> Result<(), E::Refused>
-    ensures call { (result, read_as E.Element.read (S.Store.meaning store.new)) ≡ outcome_as E.Listed.refused (taken (read_as E.Element.read (S.Store.meaning store.old)) name.0) }
-    ensures written { Written E.Element.read E.Element.written (S.Store.meaning store.old) → Written E.Element.read E.Element.written (S.Store.meaning store.new) }
-    ensures memory { S.Store.fixed store.new ≡ S.Store.fixed store.old }
-{
-    refused_in::<(), E>(store.take(name))
-}
+    /// Adds an element on top.
+    pub fn push(&mut self, element: E) -> Result<(), Refused<E>>
+        ensures call { (result, self.new.list) ≡ outcome_as refused_of (pushed self.old.list element) }
+        ensures written { Written E.read E.written (S.meaning self.old.store) → Written E.read E.written (S.meaning self.new.store) }
+        ensures memory { S.fixed self.new.store ≡ S.fixed self.old.store }
+    {
+        Ok(self.store.push(element.to_cell())?)
+    }
 
-/// Lets a name go.
-pub fn release<S: Store, E: Listed>(store: &mut S, name: Name) -> Result<(), E::Refused>
-    ensures call { (result, read_as E.Element.read (S.Store.meaning store.new)) ≡ outcome_as E.Listed.refused (released (read_as E.Element.read (S.Store.meaning store.old)) name.0) }
-    ensures written { Written E.Element.read E.Element.written (S.Store.meaning store.old) → Written E.Element.read E.Element.written (S.Store.meaning store.new) }
-    ensures memory { S.Store.fixed store.new ≡ S.Store.fixed store.old }
-{
-    refused_in::<(), E>(store.release(name))
-}
+    /// Removes and answers the element on top.
+    pub fn pop(&mut self) -> Result<E, Refused<E>>
+        ensures call { (result, self.new.list) ≡ outcome_as refused_of (popped self.old.list) }
+        ensures written { Written E.read E.written (S.meaning self.old.store) → Written E.read E.written (S.meaning self.new.store) }
+        ensures memory { S.fixed self.new.store ≡ S.fixed self.old.store }
+    {
+        Ok(E::from_cell(self.store.pop()?))
+    }
 
-/// Answers the element on top, if there is any.
-pub fn top<S: Store, E: Listed>(store: &S) -> Option<E>
-    ensures { result ≡ uppermost (map E.Element.read (S.Store.meaning store.now).current) }
-{
-    let index = store.len().checked_sub(1)?;
-    let cell = store.cell_at(index).ok()?;
-    Some(E::from_cell(cell))
-}
+    /// Keeps the current list under a name.
+    pub fn save(&mut self, name: Name) -> Result<(), Refused<E>>
+        ensures call { (result, self.new.list) ≡ outcome_as refused_of (saved self.old.list name.0) }
+        ensures written { Written E.read E.written (S.meaning self.old.store) → Written E.read E.written (S.meaning self.new.store) }
+        ensures memory { S.fixed self.new.store ≡ S.fixed self.old.store }
+    {
+        Ok(self.store.save(name)?)
+    }
 
-/// Answers the element at an index of the current list.
-pub fn at<S: Store, E: Listed>(store: &S, index: u32) -> Result<E, E::Refused>
-    ensures { result ≡ refused_as E.Listed.refused (cell_in (map E.Element.read (S.Store.meaning store.now).current) index) }
-{
-    element_in::<E>(store.cell_at(index))
-}
+    /// Makes the list saved under a name current.
+    pub fn restore(&mut self, name: Name) -> Result<(), Refused<E>>
+        ensures call { (result, self.new.list) ≡ outcome_as refused_of (restored self.old.list name.0) }
+        ensures written { Written E.read E.written (S.meaning self.old.store) → Written E.read E.written (S.meaning self.new.store) }
+        ensures memory { S.fixed self.new.store ≡ S.fixed self.old.store }
+    {
+        Ok(self.store.restore(name)?)
+    }
 
-/// Answers the length of the list that is saved under a name.
-pub fn saved_len<S: Store, E: Listed>(store: &S, name: Name) -> Result<u32, E::Refused>
-    ensures { result ≡ refused_as E.Listed.refused (saved_length (read_as E.Element.read (S.Store.meaning store.now)) name.0) }
-{
-    refused_in::<u32, E>(store.saved_len(name))
-}
+    /// As restore, and lets the name go.
+    pub fn take(&mut self, name: Name) -> Result<(), Refused<E>>
+        ensures call { (result, self.new.list) ≡ outcome_as refused_of (taken self.old.list name.0) }
+        ensures written { Written E.read E.written (S.meaning self.old.store) → Written E.read E.written (S.meaning self.new.store) }
+        ensures memory { S.fixed self.new.store ≡ S.fixed self.old.store }
+    {
+        Ok(self.store.take(name)?)
+    }
 
-/// Answers the element at an index of the list that is saved under a name.
-pub fn saved_at<S: Store, E: Listed>(store: &S, name: Name, index: u32) -> Result<E, E::Refused>
-    ensures { result ≡ refused_as E.Listed.refused (saved_cell_in (read_as E.Element.read (S.Store.meaning store.now)) name.0 index) }
-{
-    element_in::<E>(store.saved_cell(name, index))
+    /// Lets a name go.
+    pub fn release(&mut self, name: Name) -> Result<(), Refused<E>>
+        ensures call { (result, self.new.list) ≡ outcome_as refused_of (released self.old.list name.0) }
+        ensures written { Written E.read E.written (S.meaning self.old.store) → Written E.read E.written (S.meaning self.new.store) }
+        ensures memory { S.fixed self.new.store ≡ S.fixed self.old.store }
+    {
+        Ok(self.store.release(name)?)
+    }
+
+    /// Answers the element on top, if there is any.
+    pub fn top(&self) -> Option<E>
+        ensures { result ≡ uppermost self.now.list.current }
+    {
+        let index = self.store.len().checked_sub(1)?;
+        let cell = self.store.cell_at(index).ok()?;
+        Some(E::from_cell(cell))
+    }
+
+    /// Answers the element at an index of the current list.
+    pub fn at(&self, index: u32) -> Result<E, Refused<E>>
+        ensures { result ≡ refused_as refused_of (cell_in self.now.list.current index) }
+    {
+        Ok(E::from_cell(self.store.cell_at(index)?))
+    }
+
+    /// Answers the length of the list that is saved under a name.
+    pub fn saved_len(&self, name: Name) -> Result<u32, Refused<E>>
+        ensures { result ≡ refused_as refused_of (saved_length self.now.list name.0) }
+    {
+        Ok(self.store.saved_len(name)?)
+    }
+
+    /// Answers the element at an index of the list that is saved under a name.
+    pub fn saved_at(&self, name: Name, index: u32) -> Result<E, Refused<E>>
+        ensures { result ≡ refused_as refused_of (saved_cell_in self.now.list name.0 index) }
+    {
+        Ok(E::from_cell(self.store.saved_cell(name, index)?))
+    }
+
+    /// Answers the length of the current list.
+    pub fn len(&self) -> u32
+        ensures { result ≡ length self.now.list.current }
+    {
+        self.store.len()
+    }
+
+    /// Answers how long the current list may be.
+    pub fn depth_limit(&self) -> u32
+        ensures { result ≡ self.now.list.depth_limit }
+    {
+        self.store.depth_limit()
+    }
+
+    /// Answers the height of the store whose depth limit this is.
+    pub fn limit_level(&self) -> u32
+        ensures { result ≡ self.now.list.limit_level }
+    {
+        self.store.limit_level()
+    }
+
+    /// Answers how many names may be held.
+    pub fn held_limit(&self) -> u32
+        ensures { result ≡ self.now.list.held_limit }
+    {
+        self.store.held_limit()
+    }
 }

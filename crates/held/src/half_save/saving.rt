@@ -2,7 +2,7 @@
 ghost use Rattle.std.specs.Prelude.{◌≡◌};
 ghost use Rattle.cell.specs.Elements.{frame_in, frame_words, wind_in, wind_words};
 ghost use Rattle.store.specs.Meaning.{saved, released};
-ghost use Rattle.store.specs.Typed.{read_as, outcome_as, frame_refusal, wind_refusal, Written};
+ghost use Rattle.store.specs.Typed.{outcome_as, refused_of, Written};
 ghost use Rattle.held.specs.Saves.{owing, handing_back};
 
 use crate::half_save::HalfSave;
@@ -10,28 +10,34 @@ use crate::wind_save_refused::WindSaveRefused;
 use cell::frame::Frame;
 use cell::name::Name;
 use cell::wind::Wind;
-use store::frame_refusal::FrameRefusal;
+use store::refused::Refused;
 use store::store::Store;
-use store::typed;
+use store::typed::Typed;
 
 /// Saves in the frame store; the save in the wind store is owed then.
-pub fn save_frames<F: Store>(frames: &mut F, name: Name) -> Result<HalfSave, FrameRefusal>
-    ensures call { (result, read_as frame_in (F.Store.meaning frames.new)) ≡ owing name (outcome_as frame_refusal (saved (read_as frame_in (F.Store.meaning frames.old)) name.0)) }
-    ensures written { Written frame_in frame_words (F.Store.meaning frames.old) → Written frame_in frame_words (F.Store.meaning frames.new) }
-    ensures memory { F.Store.fixed frames.new ≡ F.Store.fixed frames.old }
+pub fn save_frames<F: Store>(
+    frames: &mut Typed<F, Frame>,
+    name: Name,
+) -> Result<HalfSave, Refused<Frame>>
+    ensures call { (result, frames.new.list) ≡ owing name (outcome_as refused_of (saved frames.old.list name.0)) }
+    ensures written { Written frame_in frame_words (F.meaning frames.old.store) → Written frame_in frame_words (F.meaning frames.new.store) }
+    ensures memory { F.fixed frames.new.store ≡ F.fixed frames.old.store }
 {
-    typed::save::<F, Frame>(frames, name)?;
+    frames.save(name)?;
     Ok(HalfSave { name })
 }
 
 /// Saves in the wind store too, or hands the half-save back.
-pub fn save_winds<W: Store>(half: HalfSave, winds: &mut W) -> Result<(), WindSaveRefused>
-    ensures call { (result, read_as wind_in (W.Store.meaning winds.new)) ≡ handing_back half (outcome_as wind_refusal (saved (read_as wind_in (W.Store.meaning winds.old)) half.name.0)) }
-    ensures written { Written wind_in wind_words (W.Store.meaning winds.old) → Written wind_in wind_words (W.Store.meaning winds.new) }
-    ensures memory { W.Store.fixed winds.new ≡ W.Store.fixed winds.old }
+pub fn save_winds<W: Store>(
+    half: HalfSave,
+    winds: &mut Typed<W, Wind>,
+) -> Result<(), WindSaveRefused>
+    ensures call { (result, winds.new.list) ≡ handing_back half (outcome_as refused_of (saved winds.old.list half.name.0)) }
+    ensures written { Written wind_in wind_words (W.meaning winds.old.store) → Written wind_in wind_words (W.meaning winds.new.store) }
+    ensures memory { W.fixed winds.new.store ≡ W.fixed winds.old.store }
 {
     let HalfSave { name } = half;
-    match typed::save::<W, Wind>(winds, name) {
+    match winds.save(name) {
         Ok(()) => Ok(()),
         Err(refusal) => Err(WindSaveRefused {
             owed: HalfSave { name },
@@ -41,11 +47,11 @@ pub fn save_winds<W: Store>(half: HalfSave, winds: &mut W) -> Result<(), WindSav
 }
 
 /// Releases the first save. A store that does not hold the name is left as it was.
-pub fn give_up<F: Store>(half: HalfSave, frames: &mut F)
-    ensures call { read_as frame_in (F.Store.meaning frames.new) ≡ (released (read_as frame_in (F.Store.meaning frames.old)) half.name.0).1 }
-    ensures written { Written frame_in frame_words (F.Store.meaning frames.old) → Written frame_in frame_words (F.Store.meaning frames.new) }
-    ensures memory { F.Store.fixed frames.new ≡ F.Store.fixed frames.old }
+pub fn give_up<F: Store>(half: HalfSave, frames: &mut Typed<F, Frame>)
+    ensures call { frames.new.list ≡ (released frames.old.list half.name.0).1 }
+    ensures written { Written frame_in frame_words (F.meaning frames.old.store) → Written frame_in frame_words (F.meaning frames.new.store) }
+    ensures memory { F.fixed frames.new.store ≡ F.fixed frames.old.store }
 {
     let HalfSave { name } = half;
-    let _ = typed::release::<F, Frame>(frames, name);
+    let _ = frames.release(name);
 }

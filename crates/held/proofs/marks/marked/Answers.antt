@@ -1,26 +1,14 @@
-use Rattle.std.proofs.Common.{suc, true, cond, map, drop, sym, ap, ◌∙◌, add-one, arith}
-use Rattle.std.proofs.lemmas.List.{at_drop_all, length-map}
-use Rattle.cell.specs.Elements.{frame_in}
-use Rattle.machine.specs.Apply.{marked_in}
-use Rattle.held.proofs.Marking.{marked_step, marked_reverse}
+use Rattle.std.proofs.Common.{length, rules, tests, arith, sym, refl, ◌∙◌}
+use Rattle.std.specs.List.{slice_get}
+use Rattle.std.proofs.lemmas.Iterator.{YieldsList-from_range}
+use Rattle.std.proofs.lemmas.Iterator.Search.{any_from_yields_List}
+use Rattle.held.specs.Marks.{marks_at}
+use Rattle.held.proofs.Marking.{marked_any}
 use Rattle.held.proofs.marks.marked.Goals as goal
-
-pub returns-then-marks_at : goal.returns-then-marks_at
-returns-then-marks_at g c =
-    let fs = map frame_in (g.F.Store.meaning c.args.frames.now).current in
-    let n = c.args.name.0 in
-    let i = c.loop-index.index in
-    sym (marked_reverse fs n ∙ c.loop-index.invariant ∙ marked_step fs i n ∙ ap (λ b. cond b true (marked_in (drop (suc i) fs) n)) (sym c.if-marks_at.ensures))
-
-pub loop-index-preserved : goal.loop-index-preserved
-loop-index-preserved g c =
-    let fs = map frame_in (g.F.Store.meaning c.args.frames.now).current in
-    let n = c.args.name.0 in
-    let i = c.loop-index.index in
-    rw add-one (c.loop-index.invariant ∙ marked_step fs i n ∙ ap (λ b. cond b true (marked_in (drop (suc i) fs) n)) (sym c.if-marks_at.ensures))
 
 pub returns : goal.returns
 returns g c =
-    let fs = map frame_in (g.F.Store.meaning c.args.frames.now).current in
+    let fs = c.args.frames.now.list.current in
     let n = c.args.name.0 in
-    sym (marked_reverse fs n ∙ c.loop-index.invariant ∙ at_drop_all (λ gs. marked_in gs n) fs c.loop-index.index (simp length-map (omega arith)))
+    any_from_yields_List (λ i. marks_at (slice_get fs i) n) _ _ c.any.result c.any.ensures.ran (YieldsList-from_range 0 c.len.result (length fs) refl (omega (arith, c.len.ensures))) (λ x b q k. search (rules, tests))
+    ∙ sym (marked_any fs n)

@@ -1,35 +1,23 @@
-use Rattle.std.proofs.Common.{ℕ, sym, ◌∙◌, arith, rules}
-use Rattle.std.proofs.lemmas.List.{length-take, length-drop}
-use Rattle.held.proofs.Moving.{length_moved, taken_out}
-use Rattle.held.proofs.Rows.{blank}
-use Rattle.held.proofs.Tables.{hit, miss}
+use Rattle.std.proofs.Common.{◌≡◌, rules, tests, ◌∙◌}
+use Rattle.std.specs.List.{position_from}
+use Rattle.std.proofs.lemmas.Iterator.{YieldsList-from_slice}
+use Rattle.std.proofs.lemmas.Iterator.Adapters.{position_from-zero}
+use Rattle.std.proofs.lemmas.Iterator.Search.{position_from_yields_List}
+use Rattle.held.proofs.Rows.{has_name, none_removed, one_removed}
 use Rattle.held.proofs.held_table.HeldTable.remove.Goals as goal
 
+pub returns-in-Some : goal.returns-in-Some
+returns-in-Some c =
+    let rs = c.args.self.now in
+    let n = c.args.name.0 in
+    let at : c.position.result ≡ position_from (has_name n) 0 rs =
+    position_from_yields_List (has_name n) _ _ c.position.result c.position.ensures.ran (YieldsList-from_slice rs cc) (λ x b q k. search (rules, tests)) ∙ position_from-zero (has_name n) rs in
+    c.remove.ensures.items ∙ rw c.self.view_is (one_removed rs n c.position.result at c.in-Some.index c.in-Some.is)
+
 pub returns-in_default : goal.returns-in_default
-returns-in_default c = sym (miss c.args.self.now c.args.name.0 c.in_default.ensures).1
-
-pub offset_bounds-self-index : goal.offset_bounds-self-index
-offset_bounds-self-index c = let h = (hit c.args.self.now c.args.name.0 c.in-Some.index c.in-Some.ensures).within in omega arith
-
-pub slice_bounds-rotate_left-count : goal.slice_bounds-rotate_left-count
-slice_bounds-rotate_left-count c = let h = (hit c.args.self.now c.args.name.0 c.in-Some.index c.in-Some.ensures).within in omega arith
-
-pub slice_bounds-rotate_left-start : goal.slice_bounds-rotate_left-start
-slice_bounds-rotate_left-start c = let h = (hit c.args.self.now c.args.name.0 c.in-Some.index c.in-Some.ensures).within in search rules
-
-pub rotate_left-requires : goal.rotate_left-requires
-rotate_left-requires c = let h = (hit c.args.self.now c.args.name.0 c.in-Some.index c.in-Some.ensures).within in simp (length-take, length-drop) (omega arith)
-
-pub invariant_of-self : goal.invariant_of-self
-invariant_of-self c =
-    let t = c.args.self.now in
-    let i : ℕ = c.in-Some.index in
-    let h = (hit t c.args.name.0 i c.in-Some.ensures).within in
-    record { sized = length_moved blank t.rows c.rotate_left.new.self i t.count h (omega arith) c.rotate_left.ensures.after ∙ t.sized; few = omega arith }
-
-pub returns : goal.returns
-returns c =
-    let t = c.args.self.now in
-    let i : ℕ = c.in-Some.index in
-    let h = hit t c.args.name.0 i c.in-Some.ensures in
-    taken_out blank t.rows c.rotate_left.new.self i t.count h.within (omega arith) c.rotate_left.ensures.after ∙ sym h.rest
+returns-in_default c =
+    let rs = c.args.self.now in
+    let n = c.args.name.0 in
+    let at : c.position.result ≡ position_from (has_name n) 0 rs =
+    position_from_yields_List (has_name n) _ _ c.position.result c.position.ensures.ran (YieldsList-from_slice rs cc) (λ x b q k. search (rules, tests)) ∙ position_from-zero (has_name n) rs in
+    none_removed rs n c.position.result at c.in_default.is

@@ -1,16 +1,15 @@
 use Rattle.std.proofs.Common.{◌++◌, map, reverse, take, sym, ap, ◌∙◌, arith}
 use Rattle.std.proofs.lemmas.List.{take_all, drop_all, append-nil}
-use Rattle.cell.specs.Elements.{frame_in}
 use Rattle.machine.specs.Apply.{marked_in}
 use Rattle.machine.specs.Named.{changed}
 use Rattle.held.specs.Rows.{row_name, for_many}
 use Rattle.held.proofs.Promoting.{promoted_more, unmarked_more, many_more}
-use Rattle.held.proofs.held_table.promotion.promote_each.Goals as goal
-use Rattle.held.proofs.held_table.promotion.promote_each.Goals.{then-row+then-marked, else-row, else-row-via-then-row+else-marked, else-row-via-else-row}
+use Rattle.held.proofs.held_table.promote_each.Goals as goal
+use Rattle.held.proofs.held_table.promote_each.Goals.{then-row+then-marked, else-row, else-row-via-then-row+else-marked, else-row-via-else-row}
 
 pub loop-row-preserved : goal.loop-row-preserved
 loop-row-preserved g c =
-    let test = marked_in (reverse (map frame_in (g.F.Store.meaning c.args.frames.now).current)) in
+    let test = marked_in (reverse c.args.frames.now.list.current) in
     let rs = c.args.rows.now in
     let ys = c.loop-row.rows in
     let i = c.loop-row.row-index in
@@ -24,7 +23,7 @@ loop-row-preserved g c =
 
 pub returns : goal.returns
 returns g c =
-    let fs = reverse (map frame_in (g.F.Store.meaning c.args.frames.now).current) in
+    let fs = reverse c.args.frames.now.list.current in
     let rs = c.args.rows.now in
     let i = c.loop-row.row-index in
     let change = changed row_name (marked_in fs) for_many in
