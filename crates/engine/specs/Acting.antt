@@ -4,10 +4,9 @@ use Rattle.cell.specs.declared.address.Address.{Address}
 use Rattle.cell.specs.declared.name.Name.{Name}
 use Rattle.cell.specs.declared.frame.Frame.{Frame}
 use Rattle.cell.specs.declared.wind.Wind.{Wind}
-use Rattle.store.specs.declared.frame_refusal.FrameRefusal.{FrameRefusal}
-use Rattle.store.specs.declared.wind_refusal.WindRefusal.{WindRefusal}
+use Rattle.store.specs.declared.refused.Refused.{Refused}
 use Rattle.store.specs.Meaning.{Meaning, pushed, popped, restored, taken, released}
-use Rattle.store.specs.Typed.{outcome_as, frame_refusal, wind_refusal}
+use Rattle.store.specs.Typed.{outcome_as, refused_of}
 use Rattle.machine.specs.declared.act.Act.{Act}
 use Rattle.machine.specs.declared.end.End.{End}
 use Rattle.machine.specs.declared.end.End.TheVariants.{FrameLimit, HeldLimit}
@@ -42,22 +41,22 @@ abbrev pub ◌then◌ : {A B : Type 0} → Carried A → (Parts → Carried B) �
 (Err e, p) then next = (Err e, p)
 
 -- a call on the frame store
-abbrev pub in_frames : {A : Type 0} → Parts → Result A FrameRefusal × Meaning Frame → Carried A
+abbrev pub in_frames : {A : Type 0} → Parts → Result A (Refused Frame) × Meaning Frame → Carried A
 in_frames p (Ok a, m) = (Ok a, with_frames p m)
 in_frames p (Err e, m) = (Err (frame_end e), with_frames p m)
 
 -- a call on the wind store
-abbrev pub in_winds : {A : Type 0} → Parts → Result A WindRefusal × Meaning Wind → Carried A
+abbrev pub in_winds : {A : Type 0} → Parts → Result A (Refused Wind) × Meaning Wind → Carried A
 in_winds p (Ok a, m) = (Ok a, with_winds p m)
 in_winds p (Err e, m) = (Err (wind_end e), with_winds p m)
 
 -- a frame is pushed
 abbrev pub pushing : Frame → Parts → Carried Unit
-pushing f p = in_frames p (outcome_as frame_refusal (pushed p.frames f))
+pushing f p = in_frames p (outcome_as refused_of (pushed p.frames f))
 
 -- the top frame is popped
 abbrev pub popping : Parts → Carried Frame
-popping p = in_frames p (outcome_as frame_refusal (popped p.frames))
+popping p = in_frames p (outcome_as refused_of (popped p.frames))
 
 -- another frame takes the place of the top frame
 abbrev pub replacing : Frame → Parts → Carried Unit
@@ -65,27 +64,27 @@ replacing f p = popping p then pushing f
 
 -- a wind is put in force
 abbrev pub entering : Wind → Parts → Carried Unit
-entering w p = in_winds p (outcome_as wind_refusal (pushed p.winds w))
+entering w p = in_winds p (outcome_as refused_of (pushed p.winds w))
 
 -- the top wind is removed
 abbrev pub leaving : Parts → Carried Wind
-leaving p = in_winds p (outcome_as wind_refusal (popped p.winds))
+leaving p = in_winds p (outcome_as refused_of (popped p.winds))
 
 -- the frames saved under a name are current, and go on being held
 abbrev pub restoring : Name → Parts → Carried Unit
-restoring n p = in_frames p (outcome_as frame_refusal (restored p.frames n.0))
+restoring n p = in_frames p (outcome_as refused_of (restored p.frames n.0))
 
 -- the frames saved under a name are current, and held no more
 abbrev pub taking : Name → Parts → Carried Unit
-taking n p = in_frames p (outcome_as frame_refusal (taken p.frames n.0))
+taking n p = in_frames p (outcome_as refused_of (taken p.frames n.0))
 
 -- the frame store holds a name no more
 abbrev pub releasing_frames : Name → Parts → Carried Unit
-releasing_frames n p = in_frames p (outcome_as frame_refusal (released p.frames n.0))
+releasing_frames n p = in_frames p (outcome_as refused_of (released p.frames n.0))
 
 -- the wind store holds a name no more
 abbrev pub releasing_winds : Name → Parts → Carried Unit
-releasing_winds n p = in_winds p (outcome_as wind_refusal (released p.winds n.0))
+releasing_winds n p = in_winds p (outcome_as refused_of (released p.winds n.0))
 
 -- the rows have a name no more
 abbrev pub dropping : Name → Parts → Carried Unit

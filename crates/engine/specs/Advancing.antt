@@ -1,5 +1,5 @@
 -- A step with the line that it prints, and steps in a row, by the parts of an engine.
-use Rattle.std.specs.Prelude.{ℕ, zero, suc, ◌+◌, cond, List, Some, None, Ok, Err, Option, nat_le}
+use Rattle.std.specs.Prelude.{ℕ, zero, suc, ◌+◌, cond, List, Some, None, Ok, Err, Option, Result, nat_le}
 use Rattle.code.specs.declared.instruction.Instruction.{Instruction}
 use Rattle.machine.specs.declared.end.End.{End}
 use Rattle.machine.specs.declared.end.End.TheVariants.{StepLimit, Finished as EndedWell}
@@ -15,7 +15,7 @@ use Rattle.engine.specs.declared.step.Step.{Step}
 use Rattle.engine.specs.declared.step.Step.TheVariants.{Made, Line, Finished}
 use Rattle.engine.specs.declared.stopped.Stopped.{Stopped}
 use Rattle.engine.specs.declared.turn.Turn.{Turn}
-use Rattle.engine.specs.declared.turn.Turn.TheVariants.{Went, NoRoom, Finished as TurnedLast, Refused}
+use Rattle.engine.specs.declared.turn.Turn.TheVariants.{Went, NoRoom, Finished as TurnedLast}
 use Rattle.engine.specs.Parts.{Parts, turned}
 use Rattle.engine.specs.Acting.{Carried, carried}
 use Rattle.engine.specs.Planning.{planning}
@@ -24,21 +24,21 @@ use Rattle.engine.specs.Planning.{planning}
 abbrev pub stepping : List Instruction → Parts → Carried Step
 stepping code p = cond (nat_le most_steps p.counts.steps) (Err StepLimit, p) (carried (planning code p) p)
 
--- what a step with its line came to, the buffer after it, and the parts
+-- what a step with its line came to, or the end that refused it, the buffer after it, and the parts
 abbrev pub Turned : Type 0
-Turned = Turn × List ℕ × Parts
+Turned = Result Turn End × List ℕ × Parts
 
 -- the step is made if its line was written
 abbrev pub after_line : Option ℕ × List ℕ → ℕ → Mode → Parts → Turned
-after_line (Some n, buffer) at mode p = (Went (at + n), buffer, turned p mode Stay KeepNames)
-after_line (None, buffer) at mode p = (NoRoom, buffer, p)
+after_line (Some n, buffer) at mode p = (Ok (Went (at + n)), buffer, turned p mode Stay KeepNames)
+after_line (None, buffer) at mode p = (Ok NoRoom, buffer, p)
 
 -- a step, and its line at an index of the buffer
 abbrev pub printing : Carried Step → List ℕ → ℕ → Turned
-printing (Ok Made, p) buffer at = (Went at, buffer, p)
+printing (Ok Made, p) buffer at = (Ok (Went at), buffer, p)
 printing (Ok (Line z mode), p) buffer at = after_line (written buffer at (line z)) at mode p
-printing (Ok Finished, p) buffer at = (TurnedLast, buffer, p)
-printing (Err e, p) buffer at = (Refused e, buffer, p)
+printing (Ok Finished, p) buffer at = (Ok TurnedLast, buffer, p)
+printing (Err e, p) buffer at = (Err e, buffer, p)
 
 -- the next step, with its line
 abbrev pub turning : List Instruction → Parts → List ℕ → ℕ → Turned
@@ -54,10 +54,10 @@ stop steps bytes reason end buffer p = (record { progress = record { steps = ste
 
 -- after a step, where so many steps were made before it and so many bytes written, and what comes next
 abbrev pub by_turn : Turned → ℕ → ℕ → (Parts → List ℕ → ℕ → Advanced) → Advanced
-by_turn (Went at, buffer, p) steps bytes rest = rest p buffer at
-by_turn (NoRoom, buffer, p) steps bytes rest = stop steps bytes BufferFull None buffer p
-by_turn (TurnedLast, buffer, p) steps bytes rest = stop (steps + 1) bytes Ended (Some EndedWell) buffer p
-by_turn (Refused e, buffer, p) steps bytes rest = stop steps bytes Ended (Some e) buffer p
+by_turn (Ok (Went at), buffer, p) steps bytes rest = rest p buffer at
+by_turn (Ok NoRoom, buffer, p) steps bytes rest = stop steps bytes BufferFull None buffer p
+by_turn (Ok TurnedLast, buffer, p) steps bytes rest = stop (steps + 1) bytes Ended (Some EndedWell) buffer p
+by_turn (Err e, buffer, p) steps bytes rest = stop steps bytes Ended (Some e) buffer p
 
 -- at most so many steps more, after so many that were made and so many bytes that were written
 abbrev pub advancing : List Instruction → ℕ → ℕ → Parts → List ℕ → ℕ → Advanced

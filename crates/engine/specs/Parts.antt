@@ -1,13 +1,10 @@
 -- What an engine is, part by part: what its two stores mean, read as frames and as winds, and its own words.
 use Rattle.std.specs.Prelude.{ℕ, ◌+◌, ◌%◌, ◌^◌, min, Bool, true, false, cond, List, reverse, slice_set}
 use Rattle.cell.specs.declared.address.Address.{Address}
-use Rattle.cell.specs.declared.cell.Cell.{Cell}
 use Rattle.cell.specs.declared.value.Value.{Value}
 use Rattle.cell.specs.declared.frame.Frame.{Frame}
 use Rattle.cell.specs.declared.wind.Wind.{Wind}
-use Rattle.cell.specs.Elements.{frame_in, wind_in}
 use Rattle.store.specs.Meaning.{Meaning, Held}
-use Rattle.store.specs.Typed.{read_as}
 use Rattle.code.specs.declared.register.Register.{Register}
 use Rattle.code.specs.declared.global.Global.{Global}
 use Rattle.machine.specs.declared.mode.Mode.{Mode}
@@ -19,10 +16,8 @@ use Rattle.machine.specs.State.{State, Capture, Counts, Limits}
 use Rattle.machine.specs.Apply.{trying}
 use Rattle.machine.specs.Opening.{most_held}
 use Rattle.held.specs.declared.held_row.HeldRow.{HeldRow}
-use Rattle.held.specs.Rows.{listed}
 use Rattle.laws.specs.Rows.{joined}
 use Rattle.engine.specs.declared.counters.Counters.{Counters}
-use Rattle.engine.specs.declared.engine.Engine.{Engine}
 
 pub record Parts : Type 0 where
   pub registers : List Value
@@ -45,19 +40,6 @@ counts_of c = record {
   numbered = c.numbered;
   entered = c.entered;
   left = c.left;
-}
-
--- the parts of an engine, by what its stores mean
-abbrev pub parts_of : {F W : Type 0} → (F → Meaning Cell) → (W → Meaning Cell) → Engine F W → Parts
-parts_of frames winds e = record {
-  registers = e.registers;
-  globals = e.globals;
-  frames = read_as frame_in (frames e.frames);
-  winds = read_as wind_in (winds e.winds);
-  rows = listed e.held;
-  mode = e.mode;
-  tried = e.tried;
-  counts = counts_of e.counts;
 }
 
 -- what two stores saved under a name, and its row, are one capture; a store's lists have the bottom first

@@ -11,7 +11,7 @@ use Rattle.cell.specs.declared.frame.Frame.TheVariants.{Saved, Back, Mark, In, O
 use Rattle.cell.specs.declared.wind.Wind.{Wind}
 use Rattle.store.specs.declared.refusal.Refusal.{Refusal}
 use Rattle.store.specs.Meaning.{top, saved_cell_in}
-use Rattle.store.specs.Typed.{refused_as, wind_refusal}
+use Rattle.store.specs.Typed.{refused_as, refused_of}
 use Rattle.code.specs.declared.instruction.Instruction.{Instruction}
 use Rattle.code.specs.declared.instruction.Instruction.TheVariants.{Set, Proc, Load, Store as StoreTo, Add, Sub, Less, Jump, Zero, Push as PushFrom, Pop as PopTo, Print, Call, Tail, CallCc, CallOnce, Forget as ForgetIn, DynamicWind, Return, Stop}
 use Rattle.machine.specs.declared.end.End.TheVariants.{WrongFrame, NotHeld, OffTheEnd}
@@ -123,7 +123,7 @@ returning (Some f) p = resuming f p
 
 -- how many winds in force are common with those saved under a name
 abbrev pub sharing : Parts → Name → Checked ℕ
-sharing p n = refused_as (λ e. wind_end (wind_refusal e)) (common_with p.winds n.0)
+sharing p n = refused_as (λ e. wind_end (refused_of e)) (common_with p.winds n.0)
 
 -- whether winds in force have to be left, and the next saved wind to be entered if any
 abbrev pub unwinding : Bool → Result Wind Refusal → HeldRow → Name → Value → Parts → Plan

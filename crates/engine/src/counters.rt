@@ -1,7 +1,7 @@
 //! What a run counts.
 
 /// The counts of a run, each in a word.
-#[derive(Clone, Copy)]
+#[derive(Clone, Copy, Default, PartialEq, Eq, Debug)]
 pub struct Counters {
     pub steps: u32,
     /// Names.

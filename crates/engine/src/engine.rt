@@ -2,9 +2,14 @@
 
 use crate::counters::Counters;
 use cell::address::Address;
+use cell::frame::Frame;
 use cell::value::Value;
+use cell::wind::Wind;
 use held::held_table::HeldTable;
 use machine::mode::Mode;
+use std::marker::Model;
+use store::store::Store;
+use store::typed::Typed;
 
 mod acts;
 mod captures;
@@ -19,14 +24,22 @@ pub const GLOBALS: usize = 32;
 
 /// A machine's state, its frames and its winds in force in two stores.
 #[derive(Drop)]
-pub struct Engine<F, W> {
+pub struct Engine<F: Store, W: Store> {
     registers: [Value; REGISTERS],
     globals: [Value; GLOBALS],
-    frames: F,
-    winds: W,
+    frames: Typed<F, Frame>,
+    winds: Typed<W, Wind>,
     held: HeldTable,
     mode: Mode,
     /// The last address that a step was Going at.
     tried: Address,
     counts: Counters,
+}
+
+impl<F: Store, W: Store> Model for Engine<F, W> {
+    ghost use Rattle.engine.specs.Parts.{Parts, counts_of};
+
+    ghost Value = { Parts };
+
+    ghost view = { λ e. record { registers = e.registers; globals = e.globals; frames = e.frames.list; winds = e.winds.list; rows = e.held; mode = e.mode; tried = e.tried; counts = counts_of e.counts } };
 }

@@ -1,8 +1,6 @@
 //! What a step with its line came to.
 
-use machine::end::End;
-
-/// What a step came to, its line printed.
+/// What a step that was not refused came to, its line printed.
 #[derive(Clone, Copy)]
 pub enum Turn {
     /// It was made; the next byte that is printed has this index in the buffer.
@@ -11,6 +9,4 @@ pub enum Turn {
     NoRoom,
     /// It was made, and ended the run well.
     Finished,
-    /// It was refused, and the run ends.
-    Refused(End),
 }

@@ -5,7 +5,6 @@ ghost use Rattle.machine.specs.declared.frame_move.FrameMove.TheVariants.{Push a
 ghost use Rattle.machine.specs.declared.mode.Mode.TheVariants.{Going as GoingAt};
 ghost use Rattle.machine.specs.declared.wind_move.WindMove.TheVariants.{Open, Reenter, Leave};
 ghost use Rattle.machine.specs.declared.write.Write.TheVariants.{Register as ToRegister, Global as ToGlobal};
-ghost use Rattle.engine.specs.Parts.{parts_of};
 ghost use Rattle.engine.specs.Acting.{carried, entering, new_wind, replacing};
 
 use crate::engine::Engine;
@@ -25,7 +24,7 @@ use store::store::Store;
 impl<F: Store, W: Store> Engine<F, W> {
     /// Nothing but the mode changes.
     pub(crate) fn go(&mut self, mode: Mode) -> Step
-        ensures { (Ok result, parts_of F.Store.meaning W.Store.meaning self.new) ≡ carried (does (moves mode)) (parts_of F.Store.meaning W.Store.meaning self.old) }
+        ensures { (Ok result, self.new) ≡ carried (does (moves mode)) self.old }
     {
         self.turn(mode);
         Step::Made
@@ -33,7 +32,7 @@ impl<F: Store, W: Store> Engine<F, W> {
 
     /// A register is written.
     pub(crate) fn write(&mut self, register: Register, value: Value, mode: Mode) -> Step
-        ensures { (Ok result, parts_of F.Store.meaning W.Store.meaning self.new) ≡ carried (does (writing (ToRegister register value) (moves mode))) (parts_of F.Store.meaning W.Store.meaning self.old) }
+        ensures { (Ok result, self.new) ≡ carried (does (writing (ToRegister register value) (moves mode))) self.old }
     {
         self.set_register(register, value);
         self.go(mode)
@@ -41,7 +40,7 @@ impl<F: Store, W: Store> Engine<F, W> {
 
     /// A global is written.
     pub(crate) fn write_global(&mut self, global: Global, value: Value, mode: Mode) -> Step
-        ensures { (Ok result, parts_of F.Store.meaning W.Store.meaning self.new) ≡ carried (does (writing (ToGlobal global value) (moves mode))) (parts_of F.Store.meaning W.Store.meaning self.old) }
+        ensures { (Ok result, self.new) ≡ carried (does (writing (ToGlobal global value) (moves mode))) self.old }
     {
         self.set_global(global, value);
         self.go(mode)
@@ -49,7 +48,7 @@ impl<F: Store, W: Store> Engine<F, W> {
 
     /// A frame is pushed.
     pub(crate) fn push(&mut self, frame: Frame, mode: Mode) -> Result<Step, End>
-        ensures { (result, parts_of F.Store.meaning W.Store.meaning self.new) ≡ carried (does (framing (PushOne frame) (moves mode))) (parts_of F.Store.meaning W.Store.meaning self.old) }
+        ensures { (result, self.new) ≡ carried (does (framing (PushOne frame) (moves mode))) self.old }
     {
         self.push_frame(frame)?;
         Ok(self.go(mode))
@@ -57,7 +56,7 @@ impl<F: Store, W: Store> Engine<F, W> {
 
     /// Two frames are pushed, or none.
     pub(crate) fn push_both(&mut self, first: Frame, second: Frame, mode: Mode) -> Result<Step, End>
-        ensures { (result, parts_of F.Store.meaning W.Store.meaning self.new) ≡ carried (does (framing (PushBoth first second) (moves mode))) (parts_of F.Store.meaning W.Store.meaning self.old) }
+        ensures { (result, self.new) ≡ carried (does (framing (PushBoth first second) (moves mode))) self.old }
     {
         self.check_frames(2)?;
         self.push_frame(first)?;
@@ -67,7 +66,7 @@ impl<F: Store, W: Store> Engine<F, W> {
 
     /// The top frame is popped.
     pub(crate) fn pop(&mut self, mode: Mode) -> Result<Step, End>
-        ensures { (result, parts_of F.Store.meaning W.Store.meaning self.new) ≡ carried (does (framing PopOne (moves mode))) (parts_of F.Store.meaning W.Store.meaning self.old) }
+        ensures { (result, self.new) ≡ carried (does (framing PopOne (moves mode))) self.old }
     {
         self.pop_frame()?;
         Ok(self.go(mode))
@@ -80,7 +79,7 @@ impl<F: Store, W: Store> Engine<F, W> {
         value: Value,
         mode: Mode,
     ) -> Result<Step, End>
-        ensures { (result, parts_of F.Store.meaning W.Store.meaning self.new) ≡ carried (does (framing PopOne (writing (ToRegister register value) (moves mode)))) (parts_of F.Store.meaning W.Store.meaning self.old) }
+        ensures { (result, self.new) ≡ carried (does (framing PopOne (writing (ToRegister register value) (moves mode)))) self.old }
     {
         self.pop_frame()?;
         Ok(self.write(register, value, mode))
@@ -88,7 +87,7 @@ impl<F: Store, W: Store> Engine<F, W> {
 
     /// A wind of the next number is put in force.
     fn enter_new(&mut self, before: Address, after: Address) -> Result<(), End>
-        ensures { (result, parts_of F.Store.meaning W.Store.meaning self.new) ≡ entering (new_wind (parts_of F.Store.meaning W.Store.meaning self.old) before after) (parts_of F.Store.meaning W.Store.meaning self.old) }
+        ensures { (result, self.new) ≡ entering (new_wind self.old before after) self.old }
     {
         let number = WindNumber(up(self.counts.numbered));
         self.push_wind(Wind {
@@ -100,7 +99,7 @@ impl<F: Store, W: Store> Engine<F, W> {
 
     /// Another frame takes the place of the top frame.
     fn replace_top(&mut self, frame: Frame) -> Result<(), End>
-        ensures { (result, parts_of F.Store.meaning W.Store.meaning self.new) ≡ replacing frame (parts_of F.Store.meaning W.Store.meaning self.old) }
+        ensures { (result, self.new) ≡ replacing frame self.old }
     {
         self.pop_frame()?;
         self.push_frame(frame)
@@ -113,7 +112,7 @@ impl<F: Store, W: Store> Engine<F, W> {
         body: Address,
         after: Address,
     ) -> Result<Step, End>
-        ensures { (result, parts_of F.Store.meaning W.Store.meaning self.new) ≡ carried (does (winding (Open before after) (framing (Replace Frame.Out) (moves (GoingAt body))))) (parts_of F.Store.meaning W.Store.meaning self.old) }
+        ensures { (result, self.new) ≡ carried (does (winding (Open before after) (framing (Replace Frame.Out) (moves (GoingAt body))))) self.old }
     {
         self.enter_new(before, after)?;
         self.replace_top(Frame::Out)?;
@@ -123,7 +122,7 @@ impl<F: Store, W: Store> Engine<F, W> {
 
     /// A wind is left by its body, whose value waits, and its after follows.
     pub(crate) fn close_wind(&mut self, value: Value, after: Address) -> Result<Step, End>
-        ensures { (result, parts_of F.Store.meaning W.Store.meaning self.new) ≡ carried (does (winding Leave (framing (Replace (Frame.Hold value)) (moves (GoingAt after))))) (parts_of F.Store.meaning W.Store.meaning self.old) }
+        ensures { (result, self.new) ≡ carried (does (winding Leave (framing (Replace (Frame.Hold value)) (moves (GoingAt after))))) self.old }
     {
         self.replace_top(Frame::Hold(value))?;
         self.leave(after)
@@ -131,7 +130,7 @@ impl<F: Store, W: Store> Engine<F, W> {
 
     /// A wind is left by a throw, which waits in a frame, and its after follows.
     pub(crate) fn throw_out(&mut self, toss: Frame, after: Address) -> Result<Step, End>
-        ensures { (result, parts_of F.Store.meaning W.Store.meaning self.new) ≡ carried (does (winding Leave (framing (PushOne toss) (moves (GoingAt after))))) (parts_of F.Store.meaning W.Store.meaning self.old) }
+        ensures { (result, self.new) ≡ carried (does (winding Leave (framing (PushOne toss) (moves (GoingAt after))))) self.old }
     {
         self.push_frame(toss)?;
         self.leave(after)
@@ -139,7 +138,7 @@ impl<F: Store, W: Store> Engine<F, W> {
 
     /// The top wind is left, and its after follows.
     fn leave(&mut self, after: Address) -> Result<Step, End>
-        ensures { (result, parts_of F.Store.meaning W.Store.meaning self.new) ≡ carried (does (winding Leave (moves (GoingAt after)))) (parts_of F.Store.meaning W.Store.meaning self.old) }
+        ensures { (result, self.new) ≡ carried (does (winding Leave (moves (GoingAt after)))) self.old }
     {
         self.pop_wind()?;
         self.turn_leaving(Mode::Going(after));
@@ -148,7 +147,7 @@ impl<F: Store, W: Store> Engine<F, W> {
 
     /// A saved wind is entered again, and the throw to it goes on.
     pub(crate) fn reenter(&mut self, wind: Wind, mode: Mode) -> Result<Step, End>
-        ensures { (result, parts_of F.Store.meaning W.Store.meaning self.new) ≡ carried (does (winding (Reenter wind) (framing PopOne (moves mode)))) (parts_of F.Store.meaning W.Store.meaning self.old) }
+        ensures { (result, self.new) ≡ carried (does (winding (Reenter wind) (framing PopOne (moves mode)))) self.old }
     {
         self.push_wind(wind)?;
         self.pop_frame()?;

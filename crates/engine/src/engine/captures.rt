@@ -10,7 +10,7 @@ ghost use Rattle.machine.specs.declared.mode.Mode.TheVariants.{Going as GoingAt,
 ghost use Rattle.machine.specs.declared.name_move.NameMove.TheVariants.{SaveMany, SaveOnce, Use, Forget};
 ghost use Rattle.machine.specs.declared.wind_move.WindMove.TheVariants.{Stay};
 ghost use Rattle.machine.specs.declared.write.Write.TheVariants.{Register as ToRegister};
-ghost use Rattle.engine.specs.Parts.{parts_of, turned, with_register};
+ghost use Rattle.engine.specs.Parts.{turned, with_register};
 ghost use Rattle.engine.specs.Acting.{carried, carry_as};
 ghost use Rattle.engine.specs.Planning.{capturing, fresh_mark};
 
@@ -37,8 +37,8 @@ const FRAMES_FOR_ONE: u32 = 2;
 impl<F: Store, W: Store> Engine<F, W> {
     /// Ends a step that made a name: it is in r0, and the procedure follows.
     fn pass_name(&mut self, name: Name, body: Address)
-        ensures many { parts_of F.Store.meaning W.Store.meaning self.new ≡ turned (with_register (parts_of F.Store.meaning W.Store.meaning self.old) zeroth (ContinuationOf name)) (GoingAt body) Stay SaveMany }
-        ensures one { parts_of F.Store.meaning W.Store.meaning self.new ≡ turned (with_register (parts_of F.Store.meaning W.Store.meaning self.old) zeroth (ContinuationOf name)) (GoingAt body) Stay SaveOnce }
+        ensures many { self.new ≡ turned (with_register self.old zeroth (ContinuationOf name)) (GoingAt body) Stay SaveMany }
+        ensures one { self.new ≡ turned (with_register self.old zeroth (ContinuationOf name)) (GoingAt body) Stay SaveOnce }
     {
         self.set_register(ZEROTH, Value::Continuation(name));
         self.turn_making(Mode::Going(body));
@@ -46,7 +46,7 @@ impl<F: Store, W: Store> Engine<F, W> {
 
     /// The same of the rest of `cc`, under a name.
     fn capture_many_as(&mut self, name: Name, back: Address, body: Address) -> Result<Step, End>
-        ensures { (result, parts_of F.Store.meaning W.Store.meaning self.new) ≡ carry_as name (naming SaveMany (writing (ToRegister zeroth (ContinuationOf name)) (framing (Push (BackTo back)) (moves (GoingAt body))))) (parts_of F.Store.meaning W.Store.meaning self.old) }
+        ensures { (result, self.new) ≡ carry_as name (naming SaveMany (writing (ToRegister zeroth (ContinuationOf name)) (framing (Push (BackTo back)) (moves (GoingAt body))))) self.old }
     {
         self.check_capture(FRAMES_FOR_MANY)?;
         self.push_frame(Frame::Back(back))?;
@@ -57,7 +57,7 @@ impl<F: Store, W: Store> Engine<F, W> {
 
     /// A continuation is captured for many throws, and the procedure follows.
     pub(crate) fn capture_many(&mut self, back: Address, body: Address) -> Result<Step, End>
-        ensures { (result, parts_of F.Store.meaning W.Store.meaning self.new) ≡ carried (capturing SaveMany (Push (BackTo back)) (parts_of F.Store.meaning W.Store.meaning self.old) body) (parts_of F.Store.meaning W.Store.meaning self.old) }
+        ensures { (result, self.new) ≡ carried (capturing SaveMany (Push (BackTo back)) self.old body) self.old }
     {
         let name = self.next_name();
         self.capture_many_as(name, back, body)
@@ -65,7 +65,7 @@ impl<F: Store, W: Store> Engine<F, W> {
 
     /// The same of the rest of `cc1`, under a name.
     fn capture_once_as(&mut self, name: Name, back: Address, body: Address) -> Result<Step, End>
-        ensures { (result, parts_of F.Store.meaning W.Store.meaning self.new) ≡ carry_as name (naming SaveOnce (writing (ToRegister zeroth (ContinuationOf name)) (framing (PushBoth (BackTo back) (MarkOf name)) (moves (GoingAt body))))) (parts_of F.Store.meaning W.Store.meaning self.old) }
+        ensures { (result, self.new) ≡ carry_as name (naming SaveOnce (writing (ToRegister zeroth (ContinuationOf name)) (framing (PushBoth (BackTo back) (MarkOf name)) (moves (GoingAt body))))) self.old }
     {
         self.check_capture(FRAMES_FOR_ONE)?;
         self.push_frame(Frame::Back(back))?;
@@ -77,7 +77,7 @@ impl<F: Store, W: Store> Engine<F, W> {
 
     /// A continuation is captured for one throw, and the procedure follows.
     pub(crate) fn capture_once(&mut self, back: Address, body: Address) -> Result<Step, End>
-        ensures { (result, parts_of F.Store.meaning W.Store.meaning self.new) ≡ carried (capturing SaveOnce (PushBoth (BackTo back) (fresh_mark (parts_of F.Store.meaning W.Store.meaning self.old))) (parts_of F.Store.meaning W.Store.meaning self.old) body) (parts_of F.Store.meaning W.Store.meaning self.old) }
+        ensures { (result, self.new) ≡ carried (capturing SaveOnce (PushBoth (BackTo back) (fresh_mark self.old)) self.old body) self.old }
     {
         let name = self.next_name();
         self.capture_once_as(name, back, body)
@@ -85,7 +85,7 @@ impl<F: Store, W: Store> Engine<F, W> {
 
     /// A name is forgotten.
     pub(crate) fn forget(&mut self, name: Name, mode: Mode) -> Result<Step, End>
-        ensures { (result, parts_of F.Store.meaning W.Store.meaning self.new) ≡ carried (does (naming (Forget name) (moves mode))) (parts_of F.Store.meaning W.Store.meaning self.old) }
+        ensures { (result, self.new) ≡ carried (does (naming (Forget name) (moves mode))) self.old }
     {
         self.release(name)?;
         self.turn_forgetting(mode);
@@ -94,7 +94,7 @@ impl<F: Store, W: Store> Engine<F, W> {
 
     /// The Mark of a name that serves for one throw is passed, which uses the name up.
     pub(crate) fn pop_using(&mut self, name: Name) -> Result<Step, End>
-        ensures { (result, parts_of F.Store.meaning W.Store.meaning self.new) ≡ carried (does (naming (Use name) (framing Pop (moves ReturningNow)))) (parts_of F.Store.meaning W.Store.meaning self.old) }
+        ensures { (result, self.new) ≡ carried (does (naming (Use name) (framing Pop (moves ReturningNow)))) self.old }
     {
         self.pop_frame()?;
         self.release(name)?;
@@ -104,7 +104,7 @@ impl<F: Store, W: Store> Engine<F, W> {
 
     /// A throw comes to its end, and its name goes on being held.
     pub(crate) fn land(&mut self, name: Name, value: Value) -> Result<Step, End>
-        ensures { (result, parts_of F.Store.meaning W.Store.meaning self.new) ≡ carried (does (writing (ToRegister zeroth value) (framing (Restore name) (moves ReturningNow)))) (parts_of F.Store.meaning W.Store.meaning self.old) }
+        ensures { (result, self.new) ≡ carried (does (writing (ToRegister zeroth value) (framing (Restore name) (moves ReturningNow)))) self.old }
     {
         self.restore_frames(name)?;
         Ok(self.write(ZEROTH, value, Mode::Returning))
@@ -112,7 +112,7 @@ impl<F: Store, W: Store> Engine<F, W> {
 
     /// Ends a step that used a name up: the value is in r0, and it is returned.
     fn pass_value(&mut self, value: Value)
-        ensures { (name : Name) → parts_of F.Store.meaning W.Store.meaning self.new ≡ turned (with_register (parts_of F.Store.meaning W.Store.meaning self.old) zeroth value) ReturningNow Stay (Use name) }
+        ensures { (name : Name) → self.new ≡ turned (with_register self.old zeroth value) ReturningNow Stay (Use name) }
     {
         self.set_register(ZEROTH, value);
         self.turn_using(Mode::Returning);
@@ -120,7 +120,7 @@ impl<F: Store, W: Store> Engine<F, W> {
 
     /// A throw comes to its end, which uses its name up.
     pub(crate) fn land_using(&mut self, name: Name, value: Value) -> Result<Step, End>
-        ensures { (result, parts_of F.Store.meaning W.Store.meaning self.new) ≡ carried (does (writing (ToRegister zeroth value) (naming (Use name) (framing (Restore name) (moves ReturningNow))))) (parts_of F.Store.meaning W.Store.meaning self.old) }
+        ensures { (result, self.new) ≡ carried (does (writing (ToRegister zeroth value) (naming (Use name) (framing (Restore name) (moves ReturningNow))))) self.old }
     {
         self.take_frames(name)?;
         self.release_winds(name)?;

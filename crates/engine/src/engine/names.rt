@@ -1,7 +1,6 @@
 //! What names are made, used up and forgotten by: calls on both stores and on the rows.
 ghost use Rattle.std.specs.Prelude.{◌≡◌, true};
 ghost use Rattle.machine.specs.declared.frame_move.FrameMove.TheVariants.{Keep, Restore};
-ghost use Rattle.engine.specs.Parts.{parts_of};
 ghost use Rattle.engine.specs.Acting.{restoring, taking, releasing_frames, releasing_winds, dropping, release as releasing, saving, adding, promoting, holding_many, holding_once, capture_room, fresh};
 
 use crate::engine::Engine;
@@ -13,52 +12,48 @@ use held::held_row::HeldRow;
 use held::save_both::save_both;
 use machine::end::End;
 use store::store::Store;
-use store::typed;
 
 impl<F: Store, W: Store> Engine<F, W> {
     /// The name that is made next.
     pub(crate) fn next_name(&self) -> Name
-        ensures { result ≡ fresh (parts_of F.Store.meaning W.Store.meaning self.now) }
+        ensures { result ≡ fresh self.now }
     {
         Name(up(self.counts.made))
     }
 
     /// Makes the frames saved under a name current.
     pub(crate) fn restore_frames(&mut self, name: Name) -> Result<(), End>
-        ensures { (result, parts_of F.Store.meaning W.Store.meaning self.new) ≡ restoring name (parts_of F.Store.meaning W.Store.meaning self.old) }
+        ensures { (result, self.new) ≡ restoring name self.old }
     {
-        typed::restore::<F, Frame>(&mut self.frames, name)?;
-        Ok(())
+        Ok(self.frames.restore(name)?)
     }
 
     /// The same, and the frame store lets the name go.
     pub(crate) fn take_frames(&mut self, name: Name) -> Result<(), End>
-        ensures { (result, parts_of F.Store.meaning W.Store.meaning self.new) ≡ taking name (parts_of F.Store.meaning W.Store.meaning self.old) }
+        ensures { (result, self.new) ≡ taking name self.old }
     {
-        typed::take::<F, Frame>(&mut self.frames, name)?;
-        Ok(())
+        Ok(self.frames.take(name)?)
     }
 
     /// The frame store lets a name go.
     fn release_frames(&mut self, name: Name) -> Result<(), End>
-        ensures { (result, parts_of F.Store.meaning W.Store.meaning self.new) ≡ releasing_frames name (parts_of F.Store.meaning W.Store.meaning self.old) }
+        ensures { (result, self.new) ≡ releasing_frames name self.old }
     {
-        typed::release::<F, Frame>(&mut self.frames, name)?;
-        Ok(())
+        Ok(self.frames.release(name)?)
     }
 
     /// The wind store lets a name go, and so do the rows.
     pub(crate) fn release_winds(&mut self, name: Name) -> Result<(), End>
-        ensures { (result, parts_of F.Store.meaning W.Store.meaning self.new) ≡ releasing (Restore name) name (parts_of F.Store.meaning W.Store.meaning self.old) }
+        ensures { (result, self.new) ≡ releasing (Restore name) name self.old }
     {
-        typed::release::<W, Wind>(&mut self.winds, name)?;
+        self.winds.release(name)?;
         self.held.remove(name);
         Ok(())
     }
 
     /// A name is held no more.
     pub(crate) fn release(&mut self, name: Name) -> Result<(), End>
-        ensures { (result, parts_of F.Store.meaning W.Store.meaning self.new) ≡ releasing Keep name (parts_of F.Store.meaning W.Store.meaning self.old) }
+        ensures { (result, self.new) ≡ releasing Keep name self.old }
     {
         self.release_frames(name)?;
         self.release_winds(name)
@@ -66,7 +61,7 @@ impl<F: Store, W: Store> Engine<F, W> {
 
     /// There has to be room for a capture that pushes so many frames.
     pub(crate) fn check_capture(&self, frames: u32) -> Result<(), End>
-        ensures { (result, parts_of F.Store.meaning W.Store.meaning self.now) ≡ capture_room frames (parts_of F.Store.meaning W.Store.meaning self.now) }
+        ensures { (result, self.now) ≡ capture_room frames self.now }
     {
         self.check_frames(frames)?;
         self.check_names()
@@ -74,32 +69,30 @@ impl<F: Store, W: Store> Engine<F, W> {
 
     /// Saves in both stores under a name.
     fn save(&mut self, name: Name) -> Result<(), End>
-        ensures { (result, parts_of F.Store.meaning W.Store.meaning self.new) ≡ saving name (parts_of F.Store.meaning W.Store.meaning self.old) }
+        ensures { (result, self.new) ≡ saving name self.old }
     {
-        save_both(&mut self.frames, &mut self.winds, name)?;
-        Ok(())
+        Ok(save_both(&mut self.frames, &mut self.winds, name)?)
     }
 
     /// Adds the row of a name.
     fn add_row(&mut self, name: Name, once: bool) -> Result<(), End>
-        ensures { (result, parts_of F.Store.meaning W.Store.meaning self.new) ≡ adding name once (parts_of F.Store.meaning W.Store.meaning self.old) }
+        ensures { (result, self.new) ≡ adding name once self.old }
     {
-        match self.held.add(HeldRow { name, once }) {
-            Ok(()) => Ok(()),
-            Err(_) => Err(End::HeldLimit),
-        }
+        self.held
+            .add(HeldRow { name, once })
+            .map_err(|_| End::HeldLimit)
     }
 
     /// The rows whose name has a Mark in the frames serve for many throws.
     fn promote(&mut self)
-        ensures { parts_of F.Store.meaning W.Store.meaning self.new ≡ promoting (parts_of F.Store.meaning W.Store.meaning self.old) }
+        ensures { self.new ≡ promoting self.old }
     {
         self.held.promote(&self.frames);
     }
 
     /// Both stores and the rows hold a name, for many throws.
     pub(crate) fn hold_many(&mut self, name: Name) -> Result<(), End>
-        ensures { (result, parts_of F.Store.meaning W.Store.meaning self.new) ≡ holding_many name (parts_of F.Store.meaning W.Store.meaning self.old) }
+        ensures { (result, self.new) ≡ holding_many name self.old }
     {
         self.save(name)?;
         self.promote();
@@ -108,7 +101,7 @@ impl<F: Store, W: Store> Engine<F, W> {
 
     /// The same, for one throw.
     pub(crate) fn hold_once(&mut self, name: Name) -> Result<(), End>
-        ensures { (result, parts_of F.Store.meaning W.Store.meaning self.new) ≡ holding_once name (parts_of F.Store.meaning W.Store.meaning self.old) }
+        ensures { (result, self.new) ≡ holding_once name self.old }
     {
         self.save(name)?;
         self.add_row(name, true)

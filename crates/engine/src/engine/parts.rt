@@ -6,7 +6,7 @@ ghost use Rattle.cell.specs.declared.value.Value.TheVariants.{Empty};
 ghost use Rattle.cell.specs.declared.wind.Wind.{Wind};
 ghost use Rattle.machine.specs.declared.name_move.NameMove.TheVariants.{Keep as KeepNames, SaveMany, SaveOnce, Use, Forget};
 ghost use Rattle.machine.specs.declared.wind_move.WindMove.TheVariants.{Stay, Open, Reenter, Leave};
-ghost use Rattle.engine.specs.Parts.{parts_of, with_register, with_global, turned, up as counted_on};
+ghost use Rattle.engine.specs.Parts.{with_register, with_global, turned, up as counted_on};
 ghost use Rattle.engine.specs.Acting.{pushing, popping, entering, leaving, frame_room, name_room};
 
 use crate::engine::Engine;
@@ -19,7 +19,6 @@ use held::held_table::ROWS;
 use machine::end::End;
 use machine::mode::Mode;
 use store::store::Store;
-use store::typed;
 
 /// A count that goes up by one.
 pub(crate) fn up(count: u32) -> u32
@@ -32,20 +31,16 @@ pub(crate) fn up(count: u32) -> u32
 fn value_at(values: &[Value], index: usize) -> Value
     ensures { result ≡ slice_index_or values.now index Empty }
 {
-    if index >= values.len() {
-        return Value::Empty;
-    }
-    values[index]
+    values.get(index).copied().unwrap_or_default()
 }
 
 /// Writes the value at an index, if there is one.
 fn set_value(values: &mut [Value], index: usize, value: Value)
     ensures { values.new ≡ slice_set values.old index value }
 {
-    if index >= values.len() {
-        return;
+    if index < values.len() {
+        values[index] = value;
     }
-    values[index] = value;
 }
 
 impl<F: Store, W: Store> Engine<F, W> {
@@ -65,53 +60,49 @@ impl<F: Store, W: Store> Engine<F, W> {
 
     /// Writes a register.
     pub(crate) fn set_register(&mut self, register: Register, value: Value)
-        ensures { parts_of F.Store.meaning W.Store.meaning self.new ≡ with_register (parts_of F.Store.meaning W.Store.meaning self.old) register value }
+        ensures { self.new ≡ with_register self.old register value }
     {
         set_value(&mut self.registers, register.0 as usize, value);
     }
 
     /// Writes a global.
     pub(crate) fn set_global(&mut self, global: Global, value: Value)
-        ensures { parts_of F.Store.meaning W.Store.meaning self.new ≡ with_global (parts_of F.Store.meaning W.Store.meaning self.old) global value }
+        ensures { self.new ≡ with_global self.old global value }
     {
         set_value(&mut self.globals, global.0 as usize, value);
     }
 
     /// Pushes a frame.
     pub(crate) fn push_frame(&mut self, frame: Frame) -> Result<(), End>
-        ensures { (result, parts_of F.Store.meaning W.Store.meaning self.new) ≡ pushing frame (parts_of F.Store.meaning W.Store.meaning self.old) }
+        ensures { (result, self.new) ≡ pushing frame self.old }
     {
-        typed::push::<F, Frame>(&mut self.frames, frame)?;
-        Ok(())
+        Ok(self.frames.push(frame)?)
     }
 
     /// Pops the top frame.
     pub(crate) fn pop_frame(&mut self) -> Result<Frame, End>
-        ensures { (result, parts_of F.Store.meaning W.Store.meaning self.new) ≡ popping (parts_of F.Store.meaning W.Store.meaning self.old) }
+        ensures { (result, self.new) ≡ popping self.old }
     {
-        let frame = typed::pop::<F, Frame>(&mut self.frames)?;
-        Ok(frame)
+        Ok(self.frames.pop()?)
     }
 
     /// Puts a wind in force.
     pub(crate) fn push_wind(&mut self, wind: Wind) -> Result<(), End>
-        ensures { (result, parts_of F.Store.meaning W.Store.meaning self.new) ≡ entering wind (parts_of F.Store.meaning W.Store.meaning self.old) }
+        ensures { (result, self.new) ≡ entering wind self.old }
     {
-        typed::push::<W, Wind>(&mut self.winds, wind)?;
-        Ok(())
+        Ok(self.winds.push(wind)?)
     }
 
     /// Removes the top wind.
     pub(crate) fn pop_wind(&mut self) -> Result<Wind, End>
-        ensures { (result, parts_of F.Store.meaning W.Store.meaning self.new) ≡ leaving (parts_of F.Store.meaning W.Store.meaning self.old) }
+        ensures { (result, self.new) ≡ leaving self.old }
     {
-        let wind = typed::pop::<W, Wind>(&mut self.winds)?;
-        Ok(wind)
+        Ok(self.winds.pop()?)
     }
 
     /// Ends a step that moved no wind and no name.
     pub(crate) fn turn(&mut self, mode: Mode)
-        ensures { parts_of F.Store.meaning W.Store.meaning self.new ≡ turned (parts_of F.Store.meaning W.Store.meaning self.old) mode Stay KeepNames }
+        ensures { self.new ≡ turned self.old mode Stay KeepNames }
     {
         if let Mode::Going(at) = self.mode {
             self.tried = at;
@@ -122,7 +113,7 @@ impl<F: Store, W: Store> Engine<F, W> {
 
     /// Ends a step that entered a new wind.
     pub(crate) fn turn_opening(&mut self, mode: Mode)
-        ensures { (before after : Address) → parts_of F.Store.meaning W.Store.meaning self.new ≡ turned (parts_of F.Store.meaning W.Store.meaning self.old) mode (Open before after) KeepNames }
+        ensures { (before after : Address) → self.new ≡ turned self.old mode (Open before after) KeepNames }
     {
         self.counts.numbered = up(self.counts.numbered);
         self.counts.entered = up(self.counts.entered);
@@ -131,7 +122,7 @@ impl<F: Store, W: Store> Engine<F, W> {
 
     /// Ends a step that entered a saved wind again.
     pub(crate) fn turn_reentering(&mut self, mode: Mode)
-        ensures { (wind : Wind) → parts_of F.Store.meaning W.Store.meaning self.new ≡ turned (parts_of F.Store.meaning W.Store.meaning self.old) mode (Reenter wind) KeepNames }
+        ensures { (wind : Wind) → self.new ≡ turned self.old mode (Reenter wind) KeepNames }
     {
         self.counts.entered = up(self.counts.entered);
         self.turn(mode);
@@ -139,7 +130,7 @@ impl<F: Store, W: Store> Engine<F, W> {
 
     /// Ends a step that left a wind.
     pub(crate) fn turn_leaving(&mut self, mode: Mode)
-        ensures { parts_of F.Store.meaning W.Store.meaning self.new ≡ turned (parts_of F.Store.meaning W.Store.meaning self.old) mode Leave KeepNames }
+        ensures { self.new ≡ turned self.old mode Leave KeepNames }
     {
         self.counts.left = up(self.counts.left);
         self.turn(mode);
@@ -147,7 +138,7 @@ impl<F: Store, W: Store> Engine<F, W> {
 
     /// Ends a step that made a name.
     pub(crate) fn turn_making(&mut self, mode: Mode)
-        ensures { (parts_of F.Store.meaning W.Store.meaning self.new ≡ turned (parts_of F.Store.meaning W.Store.meaning self.old) mode Stay SaveMany) × (parts_of F.Store.meaning W.Store.meaning self.new ≡ turned (parts_of F.Store.meaning W.Store.meaning self.old) mode Stay SaveOnce) }
+        ensures { (self.new ≡ turned self.old mode Stay SaveMany) × (self.new ≡ turned self.old mode Stay SaveOnce) }
     {
         self.counts.made = up(self.counts.made);
         self.turn(mode);
@@ -155,7 +146,7 @@ impl<F: Store, W: Store> Engine<F, W> {
 
     /// Ends a step that used a name up.
     pub(crate) fn turn_using(&mut self, mode: Mode)
-        ensures { (name : Name) → parts_of F.Store.meaning W.Store.meaning self.new ≡ turned (parts_of F.Store.meaning W.Store.meaning self.old) mode Stay (Use name) }
+        ensures { (name : Name) → self.new ≡ turned self.old mode Stay (Use name) }
     {
         self.counts.used = up(self.counts.used);
         self.turn(mode);
@@ -163,7 +154,7 @@ impl<F: Store, W: Store> Engine<F, W> {
 
     /// Ends a step that forgot a name.
     pub(crate) fn turn_forgetting(&mut self, mode: Mode)
-        ensures { (name : Name) → parts_of F.Store.meaning W.Store.meaning self.new ≡ turned (parts_of F.Store.meaning W.Store.meaning self.old) mode Stay (Forget name) }
+        ensures { (name : Name) → self.new ≡ turned self.old mode Stay (Forget name) }
     {
         self.counts.forgotten = up(self.counts.forgotten);
         self.turn(mode);
@@ -171,9 +162,9 @@ impl<F: Store, W: Store> Engine<F, W> {
 
     /// There has to be room for so many frames more.
     pub(crate) fn check_frames(&self, more: u32) -> Result<(), End>
-        ensures { (result, parts_of F.Store.meaning W.Store.meaning self.now) ≡ frame_room more (parts_of F.Store.meaning W.Store.meaning self.now) }
+        ensures { (result, self.now) ≡ frame_room more self.now }
     {
-        if self.frames.len() as u64 + more as u64 <= self.frames.depth_limit() as u64 {
+        if u64::from(self.frames.len()) + u64::from(more) <= u64::from(self.frames.depth_limit()) {
             return Ok(());
         }
         Err(End::FrameLimit(self.frames.limit_level()))
@@ -181,7 +172,7 @@ impl<F: Store, W: Store> Engine<F, W> {
 
     /// There has to be room for a name more.
     pub(crate) fn check_names(&self) -> Result<(), End>
-        ensures { (result, parts_of F.Store.meaning W.Store.meaning self.now) ≡ name_room (parts_of F.Store.meaning W.Store.meaning self.now) }
+        ensures { (result, self.now) ≡ name_room self.now }
     {
         let limit = self.frames.held_limit().min(self.winds.held_limit());
         if self.held.len() < ROWS.min(limit as usize) {
