@@ -10,7 +10,6 @@ use Rattle.store.specs.Typed.{outcome_as, refused_of}
 use Rattle.machine.specs.declared.act.Act.{Act}
 use Rattle.machine.specs.declared.end.End.{End}
 use Rattle.machine.specs.declared.end.End.TheVariants.{FrameLimit, HeldLimit}
-use Rattle.machine.specs.declared.next.Next.TheVariants.{Halt, Go}
 use Rattle.machine.specs.declared.write.Write.{Write}
 use Rattle.machine.specs.declared.write.Write.TheVariants.{Nothing, Register as ToRegister, Global as ToGlobal}
 use Rattle.machine.specs.declared.frame_move.FrameMove.{FrameMove}
@@ -247,5 +246,5 @@ acting (Some z) a p = (Ok (Line z a.mode), p)
 -- a plan
 abbrev pub carried : Plan → Parts → Carried Step
 carried (Err e) p = (Err e, p)
-carried (Ok Halt) p = (Ok Finished, turned p p.mode Stay KeepNames)
-carried (Ok (Go a)) p = acting a.line a p
+carried (Ok None) p = (Ok Finished, turned p p.mode Stay KeepNames)
+carried (Ok (Some a)) p = acting a.line a p

@@ -15,7 +15,6 @@ use Rattle.store.specs.Typed.{refused_as, refused_of}
 use Rattle.code.specs.declared.instruction.Instruction.{Instruction}
 use Rattle.code.specs.declared.instruction.Instruction.TheVariants.{Set, Proc, Load, Store as StoreTo, Add, Sub, Less, Jump, Zero, Push as PushFrom, Pop as PopTo, Print, Call, Tail, CallCc, CallOnce, Forget as ForgetIn, DynamicWind, Return, Stop}
 use Rattle.machine.specs.declared.end.End.TheVariants.{WrongFrame, NotHeld, OffTheEnd}
-use Rattle.machine.specs.declared.next.Next.TheVariants.{Halt}
 use Rattle.machine.specs.declared.write.Write.TheVariants.{Register as ToRegister}
 use Rattle.machine.specs.declared.frame_move.FrameMove.{FrameMove}
 use Rattle.machine.specs.declared.frame_move.FrameMove.TheVariants.{Push, PushBoth, Pop, Replace, Restore}
@@ -119,7 +118,7 @@ resuming (Enter n v) p =
 
 -- with no frame the run ends well
 abbrev pub returning : Option Frame → Parts → Plan
-returning None p = Ok Halt
+returning None p = Ok None
 returning (Some f) p = resuming f p
 
 -- how many winds in force are common with those saved under a name

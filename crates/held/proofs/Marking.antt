@@ -1,11 +1,11 @@
 -- The search for a Mark, frame by frame, and that the order of the frames does not matter to it.
 use Rattle.std.proofs.Common.{◌≡◌, ℕ, zero, suc, ◌+◌, ◌||◌, arith, Bool, true, false, cond, eqb, List, [], ◌∷◌, ◌++◌, reverse, length, drop, sym, refl, ap, ◌∙◌}
 use mathlib.Core.List.{reverse-cons}
-use Rattle.std.specs.List.{slice_get, list_any, range_with_len}
+use Rattle.std.specs.List.{flat_map, slice_get, list_any, range_with_len}
 use Rattle.std.proofs.lemmas.List.{drop_all}
 use Rattle.cell.specs.declared.frame.Frame.{Frame}
 use Rattle.machine.specs.Apply.{marked_in}
-use Rattle.machine.specs.Names.{mark_names, gathered, stands}
+use Rattle.machine.specs.Names.{mark_names, stands}
 use Rattle.held.specs.Marks.{marks_at}
 
 -- a name stands in two lists together if it stands in one of them
@@ -21,7 +21,7 @@ stands_append n (x ∷ xs) ys = by (eqb x n) (stands_append n xs ys)
 pub marked_step : (fs : List Frame) (i n : ℕ) → marked_in (drop i fs) n ≡ cond (marks_at (slice_get fs i) n) true (marked_in (drop (suc i) fs) n)
 marked_step [] zero n = refl
 marked_step [] (suc i) n = refl
-marked_step (f ∷ fs) zero n = stands_append n (mark_names f) (gathered mark_names fs)
+marked_step (f ∷ fs) zero n = stands_append n (mark_names f) (flat_map mark_names fs)
 marked_step (f ∷ fs) (suc i) n = marked_step fs i n
 
 -- two lists of frames together

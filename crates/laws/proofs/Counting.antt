@@ -1,8 +1,8 @@
 -- How often a number stands in a list, and lists that begin with another.
-use Rattle.std.proofs.Common.{◌≡◌, ℕ, zero, suc, ◌+◌, ◌<◌, ◌≤◌, Bool, true, false, cond, eqb, List, [], ◌∷◌, ◌++◌, map, reverse, length, Some, None, refl, ap, arith}
+use Rattle.std.proofs.Common.{◌≡◌, ℕ, ◌+◌, ◌<◌, ◌≤◌, cond, eqb, List, [], ◌∷◌, ◌++◌, map, reverse, length, Some, None, refl, arith}
 use mathlib.Core.List.{reverse_aux}
 use Rattle.std.specs.List.{slice_get}
-use Rattle.std.proofs.lemmas.Bool.{cond_both, eqb-true}
+use Rattle.std.proofs.lemmas.Bool.{eqb-true}
 use Rattle.machine.specs.Throwing.{common}
 
 -- one if the numbers are equal
@@ -21,32 +21,26 @@ pub numbered-up : (m n : ℕ) (xs : List ℕ) → m ≤ n → Numbered m xs → 
 numbered-up m n xs h a k = ((a k).0, λ l. (a k).1 (omega arith))
 
 pub numbered-fresh : (m : ℕ) (xs : List ℕ) → Numbered m xs → Numbered (m + 1) ((m + 1) ∷ xs)
-numbered-fresh m xs a k =
-    cond_both (eqb (m + 1) k) 1 0 (λ b. (b + count k xs ≤ 1) × (m + 1 < k → b + count k xs ≡ 0))
-    (λ e. let i : m + 1 ≡ k = eqb-true (m + 1) k e in
-    let z : count k xs ≡ 0 = (a k).1 (omega arith) in (omega arith, λ l. absurd (omega arith)))
-    (λ e. let y = (a k).0 in (omega arith, λ l. let z : count k xs ≡ 0 = (a k).1 (omega arith) in omega arith))
+numbered-fresh m xs a k = grind (arith, a k, eqb-true)
 
 -- a list with fewer of each number
 pub numbered_less : (m : ℕ) (xs ys : List ℕ) → ((k : ℕ) → count k xs ≤ count k ys) → Numbered m ys → Numbered m xs
-numbered_less m xs ys h a k =
-    let i = h k in let j = (a k).0 in
-    (omega arith, λ l. let z : count k ys ≡ 0 = (a k).1 l in omega arith)
+numbered_less m xs ys h a k = grind (arith, h k, a k)
 
 count-reverse_aux : (k : ℕ) (xs ys : List ℕ) → count k (reverse_aux xs ys) ≡ count k xs + count k ys
 count-reverse_aux k [] ys = omega arith
-count-reverse_aux k (x ∷ xs) ys = let i = count-reverse_aux k xs (x ∷ ys) in omega arith
+count-reverse_aux k (x ∷ xs) ys = omega (arith, count-reverse_aux k xs (x ∷ ys))
 
 pub count-reverse : (k : ℕ) (xs : List ℕ) → count k (reverse xs) ≡ count k xs
-count-reverse k xs = let i = count-reverse_aux k xs [] in omega arith
+count-reverse k xs = omega (arith, count-reverse_aux k xs [])
 
-pub count_push : (k : ℕ) (xs : List ℕ) (x : ℕ) → count k (xs ++ (x ∷ [])) ≡ count k xs + one_if x k
+count_push : (k : ℕ) (xs : List ℕ) (x : ℕ) → count k (xs ++ (x ∷ [])) ≡ count k xs + one_if x k
 count_push k [] x = omega arith
-count_push k (y ∷ xs) x = let i = count_push k xs x in omega arith
+count_push k (y ∷ xs) x = omega (arith, count_push k xs x)
 
 pub numbered_push : (m : ℕ) (xs : List ℕ) → Numbered m xs → Numbered (m + 1) (xs ++ ((m + 1) ∷ []))
 numbered_push m xs a =
-    numbered_less (m + 1) (xs ++ ((m + 1) ∷ [])) ((m + 1) ∷ xs) (λ k. let i = count_push k xs (m + 1) in omega arith) (numbered-fresh m xs a)
+    numbered_less (m + 1) (xs ++ ((m + 1) ∷ [])) ((m + 1) ∷ xs) (λ k. omega (arith, count_push k xs (m + 1))) (numbered-fresh m xs a)
 
 -- xs is a beginning of ys
 abbrev pub Prefix : List ℕ → List ℕ → Type 0
@@ -57,12 +51,11 @@ Prefix (x ∷ xs) (y ∷ ys) = (x ≡ y) × Prefix xs ys
 pub prefix_count : (k : ℕ) (xs ys : List ℕ) → Prefix xs ys → count k xs ≤ count k ys
 prefix_count k [] ys h = omega arith
 prefix_count k (x ∷ xs) [] h = absurd h
-prefix_count k (x ∷ xs) (y ∷ ys) h =
-    let i = prefix_count k xs ys h.1 in let j : one_if x k ≡ one_if y k = ap (λ (z : ℕ). one_if z k) h.0 in omega arith
+prefix_count k (x ∷ xs) (y ∷ ys) h = grind (arith, h.0, prefix_count k xs ys h.1)
 
 -- one more, at the next index, is a beginning still
 pub prefix_next : (xs ys : List ℕ) (y : ℕ) → Prefix xs ys → slice_get ys (length xs) ≡ Some y → Prefix (xs ++ (y ∷ [])) ys
-prefix_next [] [] y h e = absurd (let z : ◌≡◌ {A = ℕ} 0 1 = cc in omega arith)
+prefix_next [] [] y h e = cc
 prefix_next [] (x ∷ ys) y h e = (cc, tt)
 prefix_next (x ∷ xs) [] y h e = absurd h
 prefix_next (x ∷ xs) (z ∷ ys) y h e = (h.0, prefix_next xs ys y h.1 e)
@@ -70,25 +63,15 @@ prefix_next (x ∷ xs) (z ∷ ys) y h e = (h.0, prefix_next xs ys y h.1 e)
 -- all of xs is common
 pub prefix_common : (xs ys : List ℕ) → length xs ≤ common xs ys → Prefix xs ys
 prefix_common [] ys h = tt
-prefix_common (x ∷ xs) [] h = absurd (omega arith)
-prefix_common (x ∷ xs) (y ∷ ys) h = go (eqb x y) refl (prefix_common xs ys) h
-  where
-    go : (b : Bool) → eqb x y ≡ b → (length xs ≤ common xs ys → Prefix xs ys)
-        → suc (length xs) ≤ cond b (suc (common xs ys)) 0 → (x ≡ y) × Prefix xs ys
-    go true e ih h = (eqb-true x y e, ih (omega arith))
-    go false e ih h = absurd (omega arith)
+prefix_common (x ∷ xs) [] h = omega arith
+prefix_common (x ∷ xs) (y ∷ ys) h = grind (arith, prefix_common xs ys, eqb-true)
 
 -- and ys has no more
 pub same-common : (xs ys : List ℕ) → length xs ≤ common xs ys → slice_get ys (common xs ys) ≡ None → xs ≡ ys
 same-common [] [] h e = refl
-same-common [] (y ∷ ys) h e = absurd (let z : ◌≡◌ {A = ℕ} 0 1 = cc in omega arith)
+same-common [] (y ∷ ys) h e = cc
 same-common (x ∷ xs) [] h e = absurd (omega arith)
-same-common (x ∷ xs) (y ∷ ys) h e = go (eqb x y) refl (same-common xs ys) h e
-  where
-    go : (b : Bool) → eqb x y ≡ b → (length xs ≤ common xs ys → slice_get ys (common xs ys) ≡ None → xs ≡ ys)
-        → suc (length xs) ≤ cond b (suc (common xs ys)) 0 → slice_get (y ∷ ys) (cond b (suc (common xs ys)) 0) ≡ None → x ∷ xs ≡ y ∷ ys
-    go true e ih h f = let i = eqb-true x y e in let j = ih (omega arith) f in cc (i, j)
-    go false e ih h f = absurd (omega arith)
+same-common (x ∷ xs) (y ∷ ys) h e = grind (arith, same-common xs ys, eqb-true)
 
 -- Maps of lists.
 
@@ -98,22 +81,3 @@ map_reverse_aux f (x ∷ xs) ys = map_reverse_aux f xs (x ∷ ys)
 
 pub map-reverse : {A B : Type 0} (f : A → B) (xs : List A) → map f (reverse xs) ≡ reverse (map f xs)
 map-reverse f xs = map_reverse_aux f xs []
-
-pub length-map : {A B : Type 0} (f : A → B) (xs : List A) → length (map f xs) ≡ length xs
-length-map f [] = refl
-length-map f (x ∷ xs) = ap suc (length-map f xs)
-
-pub nth_map_some : {A B : Type 0} (f : A → B) (xs : List A) (i : ℕ) (x : A) → slice_get xs i ≡ Some x → slice_get (map f xs) i ≡ Some (f x)
-nth_map_some f [] i x e = absurd (let z : ◌≡◌ {A = ℕ} 0 1 = cc in omega arith)
-nth_map_some f (y ∷ xs) zero x e = let i : y ≡ x = cc in ap (λ z. Some (f z)) i
-nth_map_some f (y ∷ xs) (suc i) x e = nth_map_some f xs i x e
-
-pub nth_map_none : {A B : Type 0} (f : A → B) (xs : List A) (i : ℕ) → slice_get xs i ≡ None → slice_get (map f xs) i ≡ None
-nth_map_none f [] i e = refl
-nth_map_none f (y ∷ xs) zero e = absurd (let z : ◌≡◌ {A = ℕ} 0 1 = cc in omega arith)
-nth_map_none f (y ∷ xs) (suc i) e = nth_map_none f xs i e
-
-pub nth_below : {A : Type 0} (xs : List A) (i : ℕ) (x : A) → slice_get xs i ≡ Some x → i < length xs
-nth_below [] i x e = absurd (let z : ◌≡◌ {A = ℕ} 0 1 = cc in omega arith)
-nth_below (y ∷ xs) zero x e = omega arith
-nth_below (y ∷ xs) (suc i) x e = let h = nth_below xs i x e in omega arith

@@ -1,8 +1,9 @@
 -- The laws of counts, names and winds, over every course from the start.
-use Rattle.std.proofs.Common.{◌≡◌, ℕ, suc, ◌+◌, ◌<◌, ◌≤◌, Bool, true, false, cond, eqb, ltb, List, [], ◌∷◌, reverse, length, ℤ, Some, None, Ok, Err, Option, sym, refl, ap, ◌∙◌, subst, inl, inr, arith}
-use lib.ListN.{length-reverse}
+use Rattle.std.proofs.Common.{◌≡◌, ℕ, suc, ◌+◌, ◌<◌, ◌≤◌, Bool, true, false, ltb, List, [], ◌∷◌, reverse, length, ℤ, Some, None, Ok, Err, Option, sym, refl, ap, ◌∙◌, subst, inl, inr, arith}
+use Rattle.std.proofs.lemmas.List.{length-map, length-reverse}
 use Rattle.std.specs.Option.{ok_or}
-use Rattle.std.proofs.lemmas.Bool.{eqb-true, eq-eqb, ltb-true}
+use Rattle.std.proofs.lemmas.Option.{slice_get_within}
+use Rattle.std.proofs.lemmas.Bool.{eq-eqb, ne_eqb, ltb-true}
 use Rattle.cell.specs.declared.name.Name.{Name}
 use Rattle.cell.specs.declared.value.Value.{Value}
 use Rattle.cell.specs.declared.frame.Frame.{Frame}
@@ -10,7 +11,6 @@ use Rattle.cell.specs.declared.frame.Frame.TheVariants.{Saved, Back, Mark, In, O
 use Rattle.cell.specs.declared.wind.Wind.{Wind}
 use Rattle.code.specs.declared.instruction.Instruction.{Instruction}
 use Rattle.machine.specs.declared.act.Act.{Act}
-use Rattle.machine.specs.declared.next.Next.TheVariants.{Go}
 use Rattle.machine.specs.declared.end.End.{End}
 use Rattle.machine.specs.declared.end.End.TheVariants.{WrongFrame, NotHeld}
 use Rattle.machine.specs.declared.frame_move.FrameMove.{FrameMove}
@@ -29,10 +29,10 @@ use Rattle.machine.specs.Plan.{plan, plan_in}
 use Rattle.machine.specs.Course.{Course, course}
 use Rattle.laws.specs.Counts.{CountsConserved, CountsWithinSteps, AllNamesMade, InForce, WindsBalanced}
 use Rattle.laws.specs.Reached.{LimitsKept, SomeWind, PlanEnd, Unreached, NeverReached, NoThrow, bodies, WindsStand, RightWinds}
-use Rattle.laws.proofs.Counting.{one_if, count, length-map, nth_below}
+use Rattle.laws.proofs.Counting.{count}
 use Rattle.laws.proofs.Named.{find-all, find_none}
-use Rattle.laws.proofs.Planned.{Acts, Planned, rested, thrown, Rested, writes, pushes, pushes_both, pops_one, passes_mark, captures-many, captures-once, forgets, opens, closes, tosses, reenters, Thrown, throws_out, throws_in, lands, planned}
-use Rattle.laws.proofs.Sound.{Sound, Fits, Rests}
+use Rattle.laws.proofs.Planned.{Planned, rested, thrown, Rested, writes, pushes, pushes_both, pops_one, passes_mark, captures-many, captures-once, forgets, opens, closes, tosses, reenters, Thrown, throws_out, throws_in, lands, planned}
+use Rattle.laws.proofs.Sound.{Sound, Fits}
 use Rattle.laws.proofs.Keeps.{winds-saved, at_rest}
 use Rattle.laws.proofs.Steps.{Reached, Good, acts_of, good_course, start_reached}
 
@@ -55,17 +55,13 @@ limits-kept l code numbers n = (from_start l code numbers n).0.within
 
 -- a number in force stands there, and any other does not
 count_in : (k : ℕ) (ws : List Wind) → InForce k ws → 1 ≤ count k (wind_numbers ws)
-count_in k (w ∷ ws) (inl e) = let i : one_if (wind_number w) k ≡ 1 = ap (λ (b : Bool). cond b 1 0) (eq-eqb (wind_number w) k e) in omega arith
-count_in k (w ∷ ws) (inr h) = let i = count_in k ws h in omega arith
+count_in k (w ∷ ws) (inl e) = rw (eq-eqb (wind_number w) k e) (omega arith)
+count_in k (w ∷ ws) (inr h) = omega (arith, count_in k ws h)
 count_in k [] h = absurd h
 
 count_out : (k : ℕ) (ws : List Wind) → (InForce k ws → ⊥) → count k (wind_numbers ws) ≡ 0
 count_out k [] h = refl
-count_out k (w ∷ ws) h = go (eqb (wind_number w) k) refl (count_out k ws (λ i. h (inr i)))
-  where
-    go : (b : Bool) → eqb (wind_number w) k ≡ b → count k (wind_numbers ws) ≡ 0 → cond b 1 0 + count k (wind_numbers ws) ≡ 0
-    go true e z = absurd (h (inl (eqb-true _ _ e)))
-    go false e z = omega arith
+count_out k (w ∷ ws) h = rw (ne_eqb (wind_number w) k (λ e. h (inl e))) (omega (arith, count_out k ws (λ i. h (inr i))))
 
 pub winds-balanced : WindsBalanced
 winds-balanced l code numbers n =
@@ -83,9 +79,8 @@ winds-balanced l code numbers n =
 module _ (l : Limits) (s : State) (k : Reached l s) where
   out_finds_wind : (fs : List Frame) → s.mode ≡ Returning → s.frames ≡ Out ∷ fs → SomeWind s
   out_finds_wind fs e f =
-      let P : Mode → Type 0 = λ m. Rests m (Fits s.held s.frames (wind_numbers s.winds)) in
-      let Q : List Frame → Type 0 = λ gs. Fits s.held gs (wind_numbers s.winds) in
-      go s.winds refl (subst Q f (subst P e k.sound.fits))
+      let fits = rw (e, f) at k.sound.fits in
+      go s.winds refl fits
     where
       go : (ws : List Wind) → s.winds ≡ ws → Fits s.held (Out ∷ fs) (wind_numbers ws) → SomeWind s
       go [] g h = absurd h
@@ -100,15 +95,15 @@ module _ (l : Limits) (s : State) (k : Reached l s) where
   found_checked (Err e) f h k = λ p. h (let i : e ≡ WrongFrame = cc in ap Err i)
 
   found-act : (a : Act) → Found (does a)
-  found-act a p = let z : ◌≡◌ {A = ℕ} 0 1 = cc in omega arith
+  found-act a p = cc
 
   found-top : (ws : List Wind) (k : ℕ) → k < length ws → top_wind ws ≡ Err WrongFrame → ⊥
   found-top [] k h e = omega arith
-  found-top (w ∷ ws) k h e = let z : ◌≡◌ {A = ℕ} 0 1 = cc in omega arith
+  found-top (w ∷ ws) k h e = cc
 
   found-held : (o : Option Capture) → ok_or o NotHeld ≡ Err WrongFrame → ⊥
-  found-held None e = let z : ◌≡◌ {A = ℕ} 0 1 = cc in omega arith
-  found-held (Some c) e = let z : ◌≡◌ {A = ℕ} 0 1 = cc in omega arith
+  found-held None e = cc
+  found-held (Some c) e = cc
 
   found-unwind : (n : Name) (v : Value) (c : Capture) (b : Bool) (o : Option Wind) → ltb (shared s.winds c.winds) (length s.winds) ≡ b → Found (unwind b o c n v s)
   found-unwind n v c true o e = found_checked (top_wind s.winds) _ (found-top s.winds _ (ltb-true _ _ e)) (λ w. found-act _)
@@ -130,7 +125,7 @@ module _ (l : Limits) (s : State) (k : Reached l s) where
   placed_again : (n : ℕ) (c : Capture) (next : Option Wind) → find capture_name s.held n ≡ Some c → wind_at c.winds (length s.winds) ≡ next → Placed (again next)
   placed_again n c None e f = tt
   placed_again n c (Some w) e f =
-      let a = nth_below (reverse c.winds) (length s.winds) w f in
+      let a = slice_get_within (reverse c.winds) (length s.winds) w f in
       let b = length-reverse c.winds in
       let d = (find-all capture_name (λ (c : Capture). (length c.frames ≤ l.frames) × (length c.winds ≤ l.winds)) s.held n c e k.within.saved).1 in omega arith
 
@@ -157,13 +152,13 @@ module _ (l : Limits) (s : State) (k : Reached l s) where
   placed a (rested q p) = placed_rested a p
   placed a (thrown n v m p) = placed_thrown n v a p
 
-  reentry_has_place : (code : List Instruction) (a : Act) (w : Wind) → plan code s ≡ Ok (Go a) → a.winds ≡ Reenter w → length s.winds < l.winds
+  reentry_has_place : (code : List Instruction) (a : Act) (w : Wind) → plan code s ≡ Ok (Some a) → a.winds ≡ Reenter w → length s.winds < l.winds
   reentry_has_place code a w p e =
-      let P : WindMove → Type 0 = Placed in
-      subst P e (placed a (acts_of (Planned s) (plan code s) a p (planned s k.sound.known code)))
+      let h = placed a (acts_of (Planned s) (plan code s) a p (planned s k.sound.known code)) in
+      rw e at h
 
   plan_ends : (code : List Instruction) (e : End) → plan code s ≡ Err e → PlanEnd e
-  plan_ends code e p = let P : Plan → Type 0 = Acts (Planned s) in subst P p (planned s k.sound.known code)
+  plan_ends code e p = let h = planned s k.sound.known code in rw p at h
 
   unreached : Unreached l s
   unreached = record {
@@ -219,16 +214,16 @@ module _ (s : State) (k : Sound s) where
   landed a (thrown n v m (throws_in c w e u)) = tt
   landed a (thrown n v m (lands c e u z)) = λ d f.
       let i : c ≡ d = cc in
-      let P : Capture → Type 0 = λ x. wind_numbers s.winds ≡ wind_numbers x.winds in
-      subst P i (winds-saved s k n c e u z)
+      cc (i, winds-saved s k n c e u z)
 
   winds_stand : WindsStand s
   winds_stand = record {
     as_bodies = λ q p.
-        sym (length-map wind_number s.winds) ∙ bodies-winds s.held s.frames (wind_numbers s.winds) (at_rest s k s.mode _ q k.fits) p;
+        sym (length-map s.winds wind_number) ∙ bodies-winds s.held s.frames (wind_numbers s.winds) (at_rest s k s.mode _ q k.fits) p;
     as_saved = λ code a n c p e f.
-        let P : FrameMove → Type 0 = Landed in
-        subst P e (landed a (acts_of (Planned s) (plan code s) a p (planned s k.known code))) c f;
+        let h = landed a (acts_of (Planned s) (plan code s) a p (planned s k.known code)) in
+        let landed_there = rw e at h in
+        landed_there c f;
   }
 
 pub right-winds : RightWinds

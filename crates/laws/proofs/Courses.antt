@@ -1,8 +1,7 @@
 -- Courses of steps from one state.
-use Rattle.std.proofs.Common.{◌≡◌, ℕ, zero, suc, ◌+◌, ◌≤◌, List, [], Some, None, Option, sym, refl, ap, ◌∙◌, subst, append_assoc, suc-add, zero-add, arith}
+use Rattle.std.proofs.Common.{◌≡◌, ℕ, zero, suc, ◌+◌, ◌≤◌, List, [], Some, None, Option, sym, refl, ap, ◌∙◌, append_assoc, suc-add, zero-add, arith}
 use Rattle.code.specs.declared.instruction.Instruction.{Instruction}
 use Rattle.machine.specs.declared.end.End.{End}
-use Rattle.machine.specs.declared.end.End.TheVariants.{Finished}
 use Rattle.machine.specs.State.{State, Limits}
 use Rattle.machine.specs.Apply.{Event}
 use Rattle.machine.specs.Step.{Outcome, went, finished, refused, step}
@@ -33,8 +32,7 @@ same_count l m code (suc n) (suc k) s e = go (step l code s) (step m code s) (al
         → ((t : State) → (course l code n t).steps ≡ (course m code k t).steps → Level (course l code n t) (course m code k t))
         → Level (follow o s (course l code n)) (follow o' s (course m code k))
     go (went t b e) (went u c f) h p ih =
-        let P : State → Type 0 = λ v. (course l code n t).steps ≡ (course m code k v).steps in
-        let i : Level (course l code n t) (course m code k t) = ih t (subst P (sym h.0) (omega arith)) in
+        let i : Level (course l code n t) (course m code k t) = ih t (grind (arith, h.0)) in
         record { state = cc (h.0, i.state); output = cc (h.0, h.1, i.output); trail = cc (h.0, h.2, i.trail) }
     go (went t b e) (finished u) h p ih = absurd h
     go (went t b e) (refused d) h p ih = absurd (omega arith)
@@ -59,22 +57,15 @@ one_output l m code (suc n) (suc k) s h = go (step l code s) (step m code s) (al
         → ((t : State) → (course l code n t).steps ≤ (course m code k t).steps → Begins (course l code n t).output (course m code k t).output)
         → Begins (follow o s (course l code n)).output (follow o' s (course m code k)).output
     go (went t b e) (went u c f) a h ih =
-        let P : State → Type 0 = λ v. (course l code n t).steps ≤ (course m code k v).steps in
-        let i : Begins (course l code n t).output (course m code k t).output = ih t (subst P (sym a.0) (omega arith)) in
+        let i : Begins (course l code n t).output (course m code k t).output = ih t (grind (arith, a.0)) in
         (i.0, cc (a.0, a.1, i.1, append_assoc b (course l code n t).output i.0))
     go (went t b e) (finished u) a h ih = absurd a
     go (went t b e) (refused d) a h ih = absurd (omega arith)
     go (finished t) o' a h ih = ((follow o' s (course m code k)).output, refl)
     go (refused d) o' a h ih = ((follow o' s (course m code k)).output, refl)
 
-some_is : (d e : End) → ◌≡◌ {A = Option End} (Some d) (Some e) → d ≡ e
-some_is d e p = cc
-
-none_some : (e : End) → ◌≡◌ {A = Option End} None (Some e) → ⊥
-none_some e p = let z : ◌≡◌ {A = ℕ} 0 1 = cc in omega arith
-
 pub no_longer : NoLonger
-no_longer l m code zero k s e p q = absurd (none_some e p)
+no_longer l m code zero k s e p q = cc
 no_longer l m code (suc n) zero s e p q = omega arith
 no_longer l m code (suc n) (suc k) s e p q = go (step l code s) (step m code s) (alike l m code s) p (no_longer l m code n k)
   where
@@ -82,20 +73,19 @@ no_longer l m code (suc n) (suc k) s e p q = go (step l code s) (step m code s) 
         → ((t : State) (d : End) → (course l code n t).end ≡ Some d → (IsLimit d → ⊥) → (course m code k t).steps ≤ (course l code n t).steps)
         → (follow o' s (course m code k)).steps ≤ (follow o s (course l code n)).steps
     go (went t b es) (went u c fs) a h ih =
-        let P : State → Type 0 = λ v. (course m code k v).steps ≤ (course l code n t).steps in
-        omega (arith, subst P a.0 (ih t e h q))
+        rw (← a.0) (omega (arith, ih t e h q))
     go (went t b es) (finished u) a h ih = absurd a
     go (went t b es) (refused d) a h ih = omega arith
     go (finished t) (went u c fs) a h ih = absurd a
     go (finished t) (finished u) a h ih = omega arith
     go (finished t) (refused d) a h ih = absurd a
-    go (refused d) (went u c fs) a h ih = let P : End → Type 0 = IsLimit in absurd (q (subst P (some_is d e h) a))
+    go (refused d) (went u c fs) a h ih = let i : d ≡ e = cc h in absurd (q (rw i at a))
     go (refused d) (finished u) a h ih = absurd a
     go (refused d) (refused x) a h ih = omega arith
 
 pub ends_alike : EndsAlike
-ends_alike l m code zero k s e d w p q r = absurd (none_some e p)
-ends_alike l m code (suc n) zero s e d w p q r = absurd (none_some d r)
+ends_alike l m code zero k s e d w p q r = cc
+ends_alike l m code (suc n) zero s e d w p q r = cc
 ends_alike l m code (suc n) (suc k) s e d w p q r = go (step l code s) refl p r (ends_alike l m code n k)
   where
     go : (o : Outcome) → step l code s ≡ o → (follow o s (course l code n)).end ≡ Some e → (follow (step m code s) s (course m code k)).end ≡ Some d
@@ -103,18 +93,17 @@ ends_alike l m code (suc n) (suc k) s e d w p q r = go (step l code s) refl p r 
         → (d ≡ e) × ((follow (step m code s) s (course m code k)).steps ≡ (follow o s (course l code n)).steps)
     go (went t b es) f h i ih =
         let x = wider_step l m code s t b es w f in
-        let P : Outcome → Type 0 = λ o. (follow o s (course m code k)).end ≡ Some d in
-        let y = ih t e d w h q (subst P x i) in
+        let y = ih t e d w h q (rw x at i) in
         rw x (y.0, ap suc y.1)
     go (finished t) f h i ih =
         let x = same_finish l m code s t f in
-        let P : Outcome → Type 0 = λ o. (follow o s (course m code k)).end ≡ Some d in
-        rw x (sym (some_is Finished d (subst P x i)) ∙ some_is Finished e h, refl)
+        let j = rw x at i in
+        rw x (cc (h, j), refl)
     go (refused c) f h i ih =
-        let R : End → Type 0 = λ x. IsLimit x → ⊥ in
-        let x = same_end l m code s c (subst R (sym (some_is c e h)) q) f in
-        let P : Outcome → Type 0 = λ o. (follow o s (course m code k)).end ≡ Some d in
-        rw x (sym (some_is c d (subst P x i)) ∙ some_is c e h, refl)
+        let u : e ≡ c = cc h in
+        let x = same_end l m code s c (rw u at q) f in
+        let j = rw x at i in
+        rw x (cc (h, j), refl)
 
 -- Portions.
 
@@ -163,12 +152,12 @@ module _ (l : Limits) (code : List Instruction) where
       go : (o : Outcome) → (follow o s (course l code n)).end ≡ None → ((t : State) → (course l code n t).end ≡ None → (course l code n t).steps ≡ n)
           → (follow o s (course l code n)).steps ≡ suc n
       go (went t b es) h ih = ap suc (ih t h)
-      go (finished t) h ih = absurd (none_some Finished (sym h))
-      go (refused d) h ih = absurd (none_some d (sym h))
+      go (finished t) h ih = cc
+      go (refused d) h ih = cc
 
   -- one that has ended had done so by the step after those that it made
   pub ended_there : (n : ℕ) (s : State) (e : End) → (course l code n s).end ≡ Some e → (course l code (suc (course l code n s).steps) s).end ≡ Some e
-  ended_there zero s e h = absurd (none_some e h)
+  ended_there zero s e h = cc
   ended_there (suc n) s e h = go (step l code s) refl h (ended_there n)
     where
       go : (o : Outcome) → step l code s ≡ o → (follow o s (course l code n)).end ≡ Some e

@@ -1,8 +1,10 @@
 -- Each act that is planned in a sound state meets what it has to, so each step leads from a sound state to a sound one.
-use Rattle.std.proofs.Common.{◌≡◌, ℕ, ◌≤◌, List, [], ◌∷◌, ◌++◌, reverse, length, Some, None, Option, sym, ap, ◌∙◌, subst, arith}
+use Rattle.std.proofs.Common.{◌≡◌, ℕ, ◌≤◌, List, [], ◌∷◌, ◌++◌, reverse, length, Some, None, Option, sym, ap, ◌∙◌, arith}
 use mathlib.Core.List.{reverse-cons, reverse-reverse}
-use lib.ListN.{length-reverse}
+use Rattle.std.proofs.lemmas.List.{length-map, length-reverse}
 use Rattle.std.specs.List.{slice_get, AllByRecursion as All}
+use Rattle.std.specs.Option.{option_map}
+use Rattle.std.proofs.lemmas.Option.{slice_get-map}
 use Rattle.std.proofs.lemmas.Bool.{cond_both}
 use Rattle.cell.specs.declared.name.Name.{Name}
 use Rattle.cell.specs.declared.value.Value.{Value}
@@ -20,10 +22,10 @@ use Rattle.machine.specs.Names.{mode_names}
 use Rattle.machine.specs.Going.{reg, zeroth}
 use Rattle.machine.specs.Returning.{spends, wind_at, again}
 use Rattle.machine.specs.Throwing.{shared, common}
-use Rattle.machine.specs.Apply.{below, replaced, saved_frames, frames_after, winds_after}
+use Rattle.machine.specs.Apply.{below, replaced, frames_after, winds_after}
 use Rattle.laws.specs.Counts.{Made}
 use Rattle.laws.specs.Reached.{AtRest}
-use Rattle.laws.proofs.Counting.{Numbered, numbered_less, count-reverse, Prefix, prefix_count, prefix_next, prefix_common, same-common, map-reverse, length-map, nth_map_some, nth_map_none}
+use Rattle.laws.proofs.Counting.{Numbered, numbered_less, count-reverse, Prefix, prefix_count, prefix_next, prefix_common, same-common, map-reverse}
 use Rattle.laws.proofs.Named.{find-all}
 use Rattle.laws.proofs.Frames.{Passed, walk_push, walk_pop}
 use Rattle.laws.proofs.Planned.{Planned, rested, thrown, Rested, writes, pushes, pushes_both, pops_one, passes_mark, captures-many, captures-once, forgets, opens, closes, tosses, reenters, Thrown, throws_out, throws_in, lands, Holds}
@@ -53,13 +55,13 @@ module _ (s : State) (k : Sound s) where
 
   -- the frames below the top one, and with another on top
   popped : {f : Frame} {fs : List Frame} (ws : List ℕ) → s.frames ≡ f ∷ fs → Stands fs ws → Stands (below s.frames) ws
-  popped ws e h = let P : List Frame → Type 0 = λ gs. Stands (below gs) ws in subst P (sym e) h
+  popped ws e h = rw e h
 
   swapped : {f : Frame} {fs : List Frame} (g : Frame) (ws : List ℕ) → s.frames ≡ f ∷ fs → Stands (g ∷ fs) ws → Stands (replaced g s.frames) ws
-  swapped g ws e h = let P : List Frame → Type 0 = λ gs. Stands (replaced g gs) ws in subst P (sym e) h
+  swapped g ws e h = rw e h
 
   on_top : {f : Frame} {fs : List Frame} (ws : List ℕ) → s.frames ≡ f ∷ fs → Stands s.frames ws → Stands (f ∷ fs) ws
-  on_top ws e h = let P : List Frame → Type 0 = λ gs. Stands gs ws in subst P e h
+  on_top ws e h = rw e at h
 
   -- a name that is spent was held
   owned_spends : (fs : List Frame) (n : Name) (c : Capture) → Holds s n c → Owned s fs (spends c n)
@@ -68,9 +70,8 @@ module _ (s : State) (k : Sound s) where
   -- the body's Out takes its wind away
   out_fits : (fs : List Frame) (w : Wind) (ws : List Wind) → s.winds ≡ w ∷ ws → Stands (Out ∷ fs) here → Stands fs (wind_numbers (below s.winds))
   out_fits fs w ws e h =
-      let P : List Wind → Type 0 = λ us. Stands (Out ∷ fs) (wind_numbers us) in
-      let Q : List Wind → Type 0 = λ us. Stands fs (wind_numbers (below us)) in
-      subst Q (sym e) (subst P e h)
+      let there = rw e at h in
+      rw e there
 
   -- a captured list of winds has each number once
   saved-winds : (n : Name) (c : Capture) → Holds s n c → CaptureSound s.counts.numbered s.held c
@@ -81,9 +82,9 @@ module _ (s : State) (k : Sound s) where
       → Numbered s.counts.numbered (wind_number w ∷ here)
   entered-again n c w e p f =
       let us : List ℕ = wind_numbers c.winds in
-      let len : length (reverse here) ≡ length s.winds = length-reverse here ∙ length-map wind_number s.winds in
+      let len : length (reverse here) ≡ length s.winds = length-reverse here ∙ length-map s.winds wind_number in
       let at : slice_get (reverse us) (length (reverse here)) ≡ Some (wind_number w) =
-      ap (λ i. slice_get (reverse us) i) len ∙ ap (λ xs. slice_get xs (length s.winds)) (sym (map-reverse wind_number c.winds)) ∙ nth_map_some wind_number (reverse c.winds) (length s.winds) w f in
+      ap (λ i. slice_get (reverse us) i) len ∙ ap (λ xs. slice_get xs (length s.winds)) (sym (map-reverse wind_number c.winds)) ∙ slice_get-map wind_number (reverse c.winds) (length s.winds) ∙ ap (option_map wind_number) f in
       let q : Prefix (reverse here ++ (wind_number w ∷ [])) (reverse us) = prefix_next (reverse here) (reverse us) (wind_number w) p at in
       let q' : Prefix (reverse (wind_number w ∷ here)) (reverse us) = rw reverse-cons q in
       numbered_less s.counts.numbered (wind_number w ∷ here) us
@@ -98,28 +99,25 @@ module _ (s : State) (k : Sound s) where
   -- if no wind has to be left, the winds in force begin the saved ones
   module _ (n : Name) (c : Capture) (e : Holds s n c) (u : length s.winds ≤ shared s.winds c.winds) where
     deep : length (reverse here) ≤ common (reverse here) (reverse (wind_numbers c.winds))
-    deep = let len : length (reverse here) ≡ length s.winds = length-reverse here ∙ length-map wind_number s.winds in omega arith
+    deep = let len : length (reverse here) ≡ length s.winds = length-reverse here ∙ length-map s.winds wind_number in omega arith
 
     enter_fits : (v : Value) (fs : List Frame) → Stands (Enter n v ∷ fs) here
     enter_fits v fs d f =
         let i : c ≡ d = cc in
-        let P : Capture → Type 0 = λ x. Prefix (reverse here) (reverse (wind_numbers x.winds)) in
-        subst P i (prefix_common (reverse here) (reverse (wind_numbers c.winds)) deep)
+        rw (← i) (prefix_common (reverse here) (reverse (wind_numbers c.winds)) deep)
 
     -- and if none has to be entered, they are the saved ones
     pub winds-saved : wind_at c.winds (shared s.winds c.winds) ≡ None → here ≡ wind_numbers c.winds
     winds-saved z =
         let us : List ℕ = wind_numbers c.winds in
         let none : slice_get (reverse us) (shared s.winds c.winds) ≡ None =
-        ap (λ xs. slice_get xs (shared s.winds c.winds)) (sym (map-reverse wind_number c.winds)) ∙ nth_map_none wind_number (reverse c.winds) (shared s.winds c.winds) z in
+        ap (λ xs. slice_get xs (shared s.winds c.winds)) (sym (map-reverse wind_number c.winds)) ∙ slice_get-map wind_number (reverse c.winds) (shared s.winds c.winds) ∙ ap (option_map wind_number) z in
         let b : reverse here ≡ reverse us = same-common (reverse here) (reverse us) deep none in
         sym (reverse-reverse here) ∙ ap reverse b ∙ reverse-reverse us
 
     restored-fits : wind_at c.winds (shared s.winds c.winds) ≡ None → Stands (frames_after s (Restore n)) here
     restored-fits z =
-        let P : List ℕ → Type 0 = λ ws. Stands c.frames ws in
-        let Q : Option Capture → Type 0 = λ o. Stands (saved_frames o s.frames) here in
-        subst Q (sym e) (subst P (sym (winds-saved z)) (saved-winds n c e).frames)
+        rw (e, winds-saved z) (saved-winds n c e).frames
 
   -- what an act does not touch stays as it is
   legal_rested : (a : Act) → Rested s a → Stands s.frames here → Legal s a

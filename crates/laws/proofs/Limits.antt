@@ -1,9 +1,8 @@
 -- A plan does not know the limits, so a step can differ under two limits only by a limit's end.
-use Rattle.std.proofs.Common.{◌≡◌, ℕ, zero, suc, ◌+◌, Bool, true, false, cond, leb, ◌⊎◌, List, length, Some, None, Ok, Err, Option, sym, refl, ap, subst, inl, inr, arith}
+use Rattle.std.proofs.Common.{◌≡◌, ℕ, zero, suc, ◌+◌, Bool, true, false, cond, leb, ◌⊎◌, List, length, Some, None, Ok, Err, Option, sym, refl, ap, inl, inr, arith}
 use Rattle.std.proofs.lemmas.Bool.{leb-true, ltb-true, le-leb, lt-ltb}
 use Rattle.code.specs.declared.instruction.Instruction.{Instruction}
 use Rattle.machine.specs.declared.act.Act.{Act}
-use Rattle.machine.specs.declared.next.Next.TheVariants.{Halt, Go}
 use Rattle.machine.specs.declared.end.End.{End}
 use Rattle.machine.specs.declared.end.End.TheVariants.{StepLimit}
 use Rattle.machine.specs.declared.wind_move.WindMove.{WindMove}
@@ -51,8 +50,8 @@ alike_admit s a (Some d) (Some e) h k = inr (h, k)
 
 alike_settle : (l m : Limits) (s : State) (p : Plan) → Alike (settle l s p) (settle m s p)
 alike_settle l m s (Err e) = inl refl
-alike_settle l m s (Ok Halt) = refl
-alike_settle l m s (Ok (Go a)) = alike_admit s a (refusal l s a) (refusal m s a) (refusal_limit l s a) (refusal_limit m s a)
+alike_settle l m s (Ok None) = refl
+alike_settle l m s (Ok (Some a)) = alike_admit s a (refusal l s a) (refusal m s a) (refusal_limit l s a) (refusal_limit m s a)
 
 pub alike : (l m : Limits) (code : List Instruction) (s : State) → Alike (step l code s) (step m code s)
 alike l m code s = go (leb most_steps s.counts.steps)
@@ -63,14 +62,13 @@ alike l m code s = go (leb most_steps s.counts.steps)
 
 pub same_step : SameStep
 same_step l m code s t u b c e f p q =
-    let P : Outcome → Type 0 = λ o. Alike (went t b e) o in
-    let Q : Outcome → Type 0 = λ o. Alike o (step m code s) in
-    subst P q (subst Q p (alike l m code s))
+    let h = alike l m code s in
+    rw (p, q) at h
 
 pub same_end : SameEnd
 same_end l m code s e no_limit p =
-    let Q : Outcome → Type 0 = λ o. Alike o (step m code s) in
-    go (step m code s) (subst Q p (alike l m code s))
+    let h = alike l m code s in
+    go (step m code s) (rw p at h)
   where
     go : (o : Outcome) → Alike (refused e) o → o ≡ refused e
     go (went t c f) h = absurd (no_limit h)
@@ -80,8 +78,8 @@ same_end l m code s e no_limit p =
 
 pub same_finish : SameFinish
 same_finish l m code s t p =
-    let Q : Outcome → Type 0 = λ o. Alike o (step m code s) in
-    go (step m code s) (subst Q p (alike l m code s))
+    let h = alike l m code s in
+    go (step m code s) (rw p at h)
   where
     go : (o : Outcome) → Alike (finished t) o → o ≡ finished t
     go (went u c f) h = absurd h
@@ -128,8 +126,8 @@ wider_admit l m s a w =
 
 wider_settle : (l m : Limits) (s : State) (p : Plan) → Wider l m → Went (settle l s p) → Went (settle m s p)
 wider_settle l m s (Err e) w h = h
-wider_settle l m s (Ok Halt) w h = h
-wider_settle l m s (Ok (Go a)) w h = wider_admit l m s a w h
+wider_settle l m s (Ok None) w h = h
+wider_settle l m s (Ok (Some a)) w h = wider_admit l m s a w h
 
 wider_went : (l m : Limits) (code : List Instruction) (s : State) → Wider l m → Went (step l code s) → Went (step m code s)
 wider_went l m code s w = go (leb most_steps s.counts.steps)
@@ -140,9 +138,8 @@ wider_went l m code s w = go (leb most_steps s.counts.steps)
 
 pub wider_step : WiderStep
 wider_step l m code s t b e w p =
-    let Q : Outcome → Type 0 = λ o. Alike o (step m code s) in
-    let P : Outcome → Type 0 = λ o. Went o in
-    go (step m code s) (wider_went l m code s w (subst P (sym p) tt)) (subst Q p (alike l m code s))
+    let h = alike l m code s in
+    go (step m code s) (wider_went l m code s w (rw p tt)) (rw p at h)
   where
     go : (o : Outcome) → Went o → Alike (went t b e) o → o ≡ went t b e
     go (went u c f) i h = cc (h.0, h.1, h.2)

@@ -1,5 +1,5 @@
 -- What a plan can come to, said once: every law of the machine looks at these cases, and only this file looks at instructions.
-use Rattle.std.proofs.Common.{◌≡◌, ℕ, zero, suc, ◌≤◌, Bool, true, false, cond, ltb, List, [], ◌∷◌, length, get_or, ℤ, pos, negsuc, ◌+ℤ◌, ◌-ℤ◌, Some, None, Ok, Err, Option, sym, refl, subst, arith}
+use Rattle.std.proofs.Common.{◌≡◌, ℕ, zero, suc, ◌≤◌, Bool, true, false, cond, ltb, List, [], ◌∷◌, length, get_or, ℤ, pos, negsuc, ◌+ℤ◌, ◌-ℤ◌, Some, None, Ok, Err, Option, refl}
 use lib.Signed.{le_z}
 use Rattle.std.specs.List.{slice_get, AllByRecursion as All}
 use Rattle.std.specs.Option.{ok_or}
@@ -15,7 +15,6 @@ use Rattle.code.specs.declared.register.Register.{Register}
 use Rattle.code.specs.declared.instruction.Instruction.{Instruction}
 use Rattle.code.specs.declared.instruction.Instruction.TheVariants.{Set, Proc, Load, Store, Add, Sub, Less, Jump, Zero, Push, Pop, Print, Call, Tail, CallCc, CallOnce, Forget, DynamicWind, Return, Stop}
 use Rattle.machine.specs.declared.act.Act.{Act}
-use Rattle.machine.specs.declared.next.Next.TheVariants.{Halt, Go}
 use Rattle.machine.specs.declared.write.Write.{Write}
 use Rattle.machine.specs.declared.write.Write.TheVariants.{Nothing, Register as ToRegister, Global as ToGlobal}
 use Rattle.machine.specs.declared.frame_move.FrameMove.{FrameMove}
@@ -99,8 +98,8 @@ module _ (s : State) where
 -- P of the act, if there is one; an end is one that a plan can have
 abbrev pub Acts : (Act → Type 0) → Plan → Type 0
 Acts P (Err e) = PlanEnd e
-Acts P (Ok Halt) = Unit {0}
-Acts P (Ok (Go a)) = P a
+Acts P (Ok None) = Unit {0}
+Acts P (Ok (Some a)) = P a
 
 -- a check that fails gives such an end
 abbrev Plain : {A : Type 0} → Checked A → Type 0
@@ -150,11 +149,11 @@ plain_top (w ∷ ws) = tt
 
 -- a held name is found
 holds : (s : State) (n : Name) (c : Capture) (o : Option Capture) → ok_or o NotHeld ≡ Ok c → o ≡ Some c
-holds s n c None e = absurd (let z : ◌≡◌ {A = ℕ} 0 1 = cc in omega arith)
+holds s n c None e = cc
 holds s n c (Some d) e = cc
 
 some_wind : (ws : List Wind) (w : Wind) → top_wind ws ≡ Ok w → (vs : List Wind) × (ws ≡ w ∷ vs)
-some_wind [] w e = absurd (let z : ◌≡◌ {A = ℕ} 0 1 = cc in omega arith)
+some_wind [] w e = cc
 some_wind (v ∷ vs) w e = (vs, cc)
 
 -- the value in a register or a global
@@ -246,14 +245,14 @@ module _ (s : State) (k : NamesMade s) where
 
   acts_map : (P Q : Act → Type 0) → ((a : Act) → P a → Q a) → (p : Plan) → Acts P p → Acts Q p
   acts_map P Q f (Err e) h = h
-  acts_map P Q f (Ok Halt) h = tt
-  acts_map P Q f (Ok (Go a)) h = f a h
+  acts_map P Q f (Ok None) h = tt
+  acts_map P Q f (Ok (Some a)) h = f a h
 
   pub planned : (code : List Instruction) → Acts (Planned s) (plan code s)
   planned code = go s.mode refl k.mode
     where
       rest : (m : Mode) → s.mode ≡ m → AtRest m → AtRest s.mode
-      rest m e h = let P : Mode → Type 0 = AtRest in subst P (sym e) h
+      rest m e h = rw e h
 
       go : (m : Mode) → s.mode ≡ m → All (Made s) (mode_names m) → Acts (Planned s) (plan_in m code s)
       go (Going p) e h = acts_map (Rested s) (Planned s) (λ a h. rested (rest (Going p) e tt) h) (plan_in (Going p) code s) (rested_fetched (slice_get code p.0) p)

@@ -1,5 +1,5 @@
 -- Three lists of things with the same names, joined row by row.
-use Rattle.std.proofs.Common.{◌≡◌, ℕ, Bool, true, false, cond, eqb, List, [], ◌∷◌, ◌++◌, Some, None, sym, refl, ap, ◌∙◌, subst, subst₂, arith}
+use Rattle.std.proofs.Common.{◌≡◌, ℕ, Bool, List, [], ◌∷◌, ◌++◌, Some, None, refl, arith}
 use Rattle.machine.specs.Named.{find, without, changed, changed_all}
 use Rattle.machine.specs.State.{capture_name, for_many}
 use Rattle.laws.specs.Rows.{joined, Matched, row, many, kept_name, flag_name, RowsJoined}
@@ -15,7 +15,7 @@ module _ {A B C D : Type 0} (na : A → ℕ) (nb : B → ℕ) (nc : C → ℕ) (
   joined_push x y z e f (a ∷ xs) [] zs h = absurd h
   joined_push x y z e f (a ∷ xs) (b ∷ ys) [] h = absurd h
   joined_push x y z e f (a ∷ xs) (b ∷ ys) (c ∷ zs) h =
-      let i = joined_push x y z e f xs ys zs h.2 in ((h.0, h.1, i.0), ap (λ rs. make a b c ∷ rs) i.1)
+      let i = joined_push x y z e f xs ys zs h.2 in ((h.0, h.1, i.0), cc i.1)
 
   pub joined-without : (n : ℕ) (xs : List A) (ys : List B) (zs : List C) → Matched na nb nc xs ys zs
       → Matched na nb nc (without na xs n) (without nb ys n) (without nc zs n)
@@ -25,42 +25,16 @@ module _ {A B C D : Type 0} (na : A → ℕ) (nb : B → ℕ) (nc : C → ℕ) (
   joined-without n [] (y ∷ ys) zs h = absurd h
   joined-without n (x ∷ xs) [] zs h = absurd h
   joined-without n (x ∷ xs) (y ∷ ys) [] h = absurd h
-  joined-without n (x ∷ xs) (y ∷ ys) (z ∷ zs) h =
-      let E : ℕ → Bool = λ k. eqb k n in
-      let Q : Bool → Bool → Bool → Type 0 = λ b c d.
-      Matched na nb nc (cond (E (na x)) xs (x ∷ without na xs n)) (cond b ys (y ∷ without nb ys n)) (cond c zs (z ∷ without nc zs n))
-      × (joined make (cond (E (na x)) xs (x ∷ without na xs n)) (cond b ys (y ∷ without nb ys n)) (cond c zs (z ∷ without nc zs n))
-      ≡ cond d (joined make xs ys zs) (make x y z ∷ without nd (joined make xs ys zs) n)) in
-      let P : Bool → Bool → Type 0 = λ b c. Q b c (E (nd (make x y z))) in
-      let R : Bool → Type 0 = λ d. Q (E (na x)) (E (na x)) d in
-      subst₂ P (ap E h.0) (ap E h.1) (subst R (sym (ap E (named x y z))) (go (E (na x)) (joined-without n xs ys zs h.2)))
-    where
-      go : (b : Bool)
-          → Matched na nb nc (without na xs n) (without nb ys n) (without nc zs n) × (joined make (without na xs n) (without nb ys n) (without nc zs n) ≡ without nd (joined make xs ys zs) n)
-          → Matched na nb nc (cond b xs (x ∷ without na xs n)) (cond b ys (y ∷ without nb ys n)) (cond b zs (z ∷ without nc zs n))
-          × (joined make (cond b xs (x ∷ without na xs n)) (cond b ys (y ∷ without nb ys n)) (cond b zs (z ∷ without nc zs n))
-          ≡ cond b (joined make xs ys zs) (make x y z ∷ without nd (joined make xs ys zs) n))
-      go true ih = (h.2, refl)
-      go false ih = ((h.0, h.1, ih.0), ap (λ rs. make x y z ∷ rs) ih.1)
+  joined-without n (x ∷ xs) (y ∷ ys) (z ∷ zs) h = grind (arith, named x y z, h.0, h.1, h.2, joined-without n xs ys zs h.2)
 
   -- a change of the third list that keeps its names
   module _ (test : ℕ → Bool) (change : C → C) (change' : D → D) (keeps : (z : C) → nc (change z) ≡ nc z)
       (same : (x : A) (y : B) (z : C) → make x y (change z) ≡ change' (make x y z)) where
     changed_one : (x : A) (y : B) (z : C) → na x ≡ nc z → make x y (changed nc test change z) ≡ changed nd test change' (make x y z)
-    changed_one x y z e =
-        let E : ℕ → D = λ k. cond (test k) (change' (make x y z)) (make x y z) in
-        go (test (nc z)) ∙ ap E (sym e) ∙ ap E (sym (named x y z))
-      where
-        go : (b : Bool) → make x y (cond b (change z) z) ≡ cond b (change' (make x y z)) (make x y z)
-        go true = same x y z
-        go false = refl
+    changed_one x y z e = grind (arith, named x y z, same x y z)
 
     changed-name : (z : C) → nc (changed nc test change z) ≡ nc z
-    changed-name z = go (test (nc z))
-      where
-        go : (b : Bool) → nc (cond b (change z) z) ≡ nc z
-        go true = keeps z
-        go false = refl
+    changed-name z = grind (arith, keeps z)
 
     pub joined-changed : (xs : List A) (ys : List B) (zs : List C) → Matched na nb nc xs ys zs
         → Matched na nb nc xs ys (changed_all nc test change zs) × (joined make xs ys (changed_all nc test change zs) ≡ changed_all nd test change' (joined make xs ys zs))
@@ -69,11 +43,7 @@ module _ {A B C D : Type 0} (na : A → ℕ) (nb : B → ℕ) (nc : C → ℕ) (
     joined-changed [] (y ∷ ys) zs h = absurd h
     joined-changed (x ∷ xs) [] zs h = absurd h
     joined-changed (x ∷ xs) (y ∷ ys) [] h = absurd h
-    joined-changed (x ∷ xs) (y ∷ ys) (z ∷ zs) h =
-        let i = joined-changed xs ys zs h.2 in (
-          (h.0, h.1 ∙ sym (changed-name z), i.0),
-          ap (λ r. r ∷ joined make xs ys (changed_all nc test change zs)) (changed_one x y z h.1) ∙ ap (λ rs. changed nd test change' (make x y z) ∷ rs) i.1,
-        )
+    joined-changed (x ∷ xs) (y ∷ ys) (z ∷ zs) h = grind (arith, h.0, h.1, changed-name z, changed_one x y z h.1, joined-changed xs ys zs h.2)
 
   pub joined-unheld : (n : ℕ) (xs : List A) (ys : List B) (zs : List C) → Matched na nb nc xs ys zs → find na xs n ≡ None → find nd (joined make xs ys zs) n ≡ None
   joined-unheld n [] [] [] h e = refl
@@ -81,36 +51,17 @@ module _ {A B C D : Type 0} (na : A → ℕ) (nb : B → ℕ) (nc : C → ℕ) (
   joined-unheld n [] (y ∷ ys) zs h e = absurd h
   joined-unheld n (x ∷ xs) [] zs h e = absurd h
   joined-unheld n (x ∷ xs) (y ∷ ys) [] h e = absurd h
-  joined-unheld n (x ∷ xs) (y ∷ ys) (z ∷ zs) h e =
-      let P : ℕ → Type 0 = λ k. cond (eqb k n) (Some (make x y z)) (find nd (joined make xs ys zs) n) ≡ None in
-      subst P (sym (named x y z)) (go (eqb (na x) n) (joined-unheld n xs ys zs h.2) e)
-    where
-      go : (b : Bool) → (find na xs n ≡ None → find nd (joined make xs ys zs) n ≡ None) → cond b (Some x) (find na xs n) ≡ None
-          → cond b (Some (make x y z)) (find nd (joined make xs ys zs) n) ≡ None
-      go true ih e = absurd (let w : ◌≡◌ {A = ℕ} 0 1 = cc in omega arith)
-      go false ih e = ih e
+  joined-unheld n (x ∷ xs) (y ∷ ys) (z ∷ zs) h e = grind (arith, named x y z, joined-unheld n xs ys zs h.2)
 
   module _ (n : ℕ) (a : A) (b : B) (c : C) where
     pub joined-found : (xs : List A) (ys : List B) (zs : List C) → Matched na nb nc xs ys zs → find na xs n ≡ Some a → find nb ys n ≡ Some b → find nc zs n ≡ Some c
         → find nd (joined make xs ys zs) n ≡ Some (make a b c)
-    joined-found [] [] [] h e f g = absurd (let w : ◌≡◌ {A = ℕ} 0 1 = cc in omega arith)
+    joined-found [] [] [] h e f g = cc
     joined-found [] [] (z ∷ zs) h e f g = absurd h
     joined-found [] (y ∷ ys) zs h e f g = absurd h
     joined-found (x ∷ xs) [] zs h e f g = absurd h
     joined-found (x ∷ xs) (y ∷ ys) [] h e f g = absurd h
-    joined-found (x ∷ xs) (y ∷ ys) (z ∷ zs) h e f g =
-        let P : ℕ → Type 0 = λ k. cond (eqb k n) (Some y) (find nb ys n) ≡ Some b in
-        let Q : ℕ → Type 0 = λ k. cond (eqb k n) (Some z) (find nc zs n) ≡ Some c in
-        let R : ℕ → Type 0 = λ k. cond (eqb k n) (Some (make x y z)) (find nd (joined make xs ys zs) n) ≡ Some (make a b c) in
-        subst R (sym (named x y z)) (go (eqb (na x) n) (joined-found xs ys zs h.2) e (subst P (sym h.0) f) (subst Q (sym h.1) g))
-      where
-        go : (t : Bool) → (find na xs n ≡ Some a → find nb ys n ≡ Some b → find nc zs n ≡ Some c → find nd (joined make xs ys zs) n ≡ Some (make a b c))
-            → cond t (Some x) (find na xs n) ≡ Some a → cond t (Some y) (find nb ys n) ≡ Some b → cond t (Some z) (find nc zs n) ≡ Some c
-            → cond t (Some (make x y z)) (find nd (joined make xs ys zs) n) ≡ Some (make a b c)
-        go true ih e f g =
-            let i : x ≡ a = cc in let j : y ≡ b = cc in let k : z ≡ c = cc in
-            ap (λ u. Some (make u y z)) i ∙ ap (λ u. Some (make a u z)) j ∙ ap (λ u. Some (make a b u)) k
-        go false ih e f g = ih e f g
+    joined-found (x ∷ xs) (y ∷ ys) (z ∷ zs) h e f g = grind (arith, named x y z, h.0, h.1, joined-found xs ys zs h.2)
 
 pub rows-joined : RowsJoined
 rows-joined xs ys zs h =

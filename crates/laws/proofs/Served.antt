@@ -1,16 +1,16 @@
 -- Lists of calls: each comes to one course of steps.
-use Rattle.std.proofs.Common.{◌≡◌, ℕ, zero, suc, ◌+◌, ◌-◌, ◌≤◌, Bool, true, false, cond, ◌||◌, ltb, List, [], ◌∷◌, ◌++◌, length, drop, ℤ, is_some, Some, None, Option, sym, refl, ap, ◌∙◌, subst, append_assoc, add-zero, arith, length-append}
+use Rattle.std.proofs.Common.{◌≡◌, ℕ, zero, suc, ◌+◌, ◌-◌, ◌≤◌, Bool, true, false, cond, ◌||◌, ltb, List, [], ◌∷◌, ◌++◌, length, drop, ℤ, is_some, Some, None, Option, sym, refl, ap, ◌∙◌, subst, append_assoc, add-zero, zero-add, arith, length-append}
 use Rattle.std.proofs.lemmas.List.{append-nil, take_at, drop_at, length-drop}
 use Rattle.std.proofs.lemmas.Bool.{ltb-false, cond-true, cond-false}
 use Rattle.code.specs.declared.instruction.Instruction.{Instruction}
 use Rattle.machine.specs.declared.end.End.{End}
-use Rattle.machine.specs.declared.end.End.TheVariants.{Finished, UnfitStores}
+use Rattle.machine.specs.declared.end.End.TheVariants.{UnfitStores}
 use Rattle.machine.specs.declared.reason.Reason.TheVariants.{BufferFull}
 use Rattle.machine.specs.declared.run_refusal.RunRefusal.{RunRefusal}
 use Rattle.machine.specs.declared.run_refusal.RunRefusal.TheVariants.{HasEnded, BudgetOutOfRange, BufferTooShort}
 use Rattle.machine.specs.State.{State, Limits, start}
 use Rattle.machine.specs.Step.{Outcome, went, finished, refused, step}
-use Rattle.machine.specs.Course.{Course, follow, course, further, joined}
+use Rattle.machine.specs.Course.{Course, course, joined}
 use Rattle.machine.specs.Opening.{Run, both_fit, limits_of, started}
 use Rattle.machine.specs.Calls.{Portion, closing, with_step, portion_by, portion, most_budget, least_buffer, Ran, accepted, declined, ran, tallied, looked, forced, Call, run, tally, look, force, Answer, told, answered, served, steps_in, output_in}
 use Rattle.laws.specs.Courses.{Level}
@@ -99,26 +99,20 @@ module _ (l : Limits) (code : List Instruction) where
           go false =
               let p : Portion = portion l code budget (room - length b) t in
               let i : Comes t p = ih (room - length b) t in
-              let P : Outcome → Type 0 = λ o. Matches (follow o s (course l code i.0)) (suc p.steps) (b ++ p.bytes) p.state p.end in
-              (suc i.0, subst P (sym e) (record { steps = ap suc i.1.steps; output = ap (λ x. b ++ x) i.1.output; state = i.1.state; end = i.1.end }))
+              (suc i.0, rw e (record { steps = ap suc i.1.steps; output = cc i.1.output; state = i.1.state; end = i.1.end }))
       by (finished t) e ih =
-          let P : Outcome → Type 0 = λ o. Matches (follow o s (course l code zero)) 1 [] t (Some Finished) in
-          (1, subst P (sym e) (record { steps = refl; output = refl; state = refl; end = refl }))
+          (1, rw e (record { steps = refl; output = refl; state = refl; end = refl }))
       by (refused d) e ih =
-          let P : Outcome → Type 0 = λ o. Matches (follow o s (course l code zero)) 0 [] s (Some d) in
-          (1, subst P (sym e) (record { steps = refl; output = refl; state = refl; end = refl }))
+          (1, rw e (record { steps = refl; output = refl; state = refl; end = refl }))
 
   -- a course, and a portion from where it has come
   stands_on : (s : State) (n : ℕ) (out : List ℕ) (t : State) (p : Portion) → Stands s n out t None → Comes t p → Stands s (n + p.steps) (out ++ p.bytes) p.state p.end
   stands_on s n out t p a b =
       let r : Course = course l code a.0 s in
-      let P : State → Type 0 = λ x. Matches (course l code b.0 x) p.steps p.bytes p.state p.end in
-      let m : Matches (course l code b.0 r.state) p.steps p.bytes p.state p.end = subst P (sym a.1.state) b.1 in
+      let m : Matches (course l code b.0 r.state) p.steps p.bytes p.state p.end = rw a.1.state b.1 in
       let q : Matches (joined r (course l code b.0 r.state)) (n + p.steps) (out ++ p.bytes) p.state p.end =
       record { steps = cc (a.1.steps, m.steps); output = cc (a.1.output, m.output); state = m.state; end = m.end } in
-      let Q : Course → Type 0 = λ c. Matches c (n + p.steps) (out ++ p.bytes) p.state p.end in
-      let R : Option End → Type 0 = λ o. Q (further o l code b.0 r) in
-      (a.0 + b.0, subst Q (sym (portions_join l code a.0 b.0 s)) (subst R (sym a.1.end) q))
+      (a.0 + b.0, rw (portions_join l code a.0 b.0 s, a.1.end) q)
 
   module _ (s₀ : State) where
     -- a run that stands so
@@ -142,7 +136,7 @@ module _ (l : Limits) (code : List Instruction) where
       where
         none_is : (o : Option End) → is_some o ≡ false → o ≡ None
         none_is None e = refl
-        none_is (Some d) e = absurd (let z : ◌≡◌ {A = ℕ} 0 1 = cc in omega arith)
+        none_is (Some d) e = cc
 
         go : (has bad short : Bool) → is_some end ≡ has
             → After (n + steps_in (told (by_tests (at s end) budget buffer has bad short)).0) (out ++ output_in (told (by_tests (at s end) budget buffer has bad short)).0)
@@ -152,9 +146,8 @@ module _ (l : Limits) (code : List Instruction) where
         go false false true e = same n out s end h
         go false false false e =
             let p : Portion = portion l code budget (length buffer) s in
-            let P : Option End → Type 0 = λ o. Stands s₀ n out s o in
             rw (take_at p.bytes (drop (length p.bytes) buffer) (length p.bytes) refl)
-            (record { state = p.state; end = p.end; is = refl; stands = stands_on s₀ n out s p (subst P (none_is end e) h) (portion-comes budget (length buffer) s) })
+            (record { state = p.state; end = p.end; is = refl; stands = stands_on s₀ n out s p (rw (none_is end e) at h) (portion-comes budget (length buffer) s) })
 
     asked : (n : ℕ) (out : List ℕ) (s : State) (end : Option End) (c : Call) → Stands s₀ n out s end
         → After (n + steps_in (answered (at s end) c).0) (out ++ output_in (answered (at s end) c).0) (answered (at s end) c).1
@@ -171,16 +164,13 @@ module _ (l : Limits) (code : List Instruction) where
     regroup : (n k j : ℕ) (out b d : List ℕ) (r : Run) → After ((n + k) + j) ((out ++ b) ++ d) r → After (n + (k + j)) (out ++ (b ++ d)) r
     regroup n k j out b d r h =
         let e : (n + k) + j ≡ n + (k + j) = omega arith in
-        let P : ℕ → Type 0 = λ m. After m ((out ++ b) ++ d) r in
-        let Q : List ℕ → Type 0 = λ x. After (n + (k + j)) x r in
-        subst Q (append_assoc out b d) (subst P e h)
+        rw (e, append_assoc out b d) at h
 
     asked_more : (a : Answer) (r : Run) (cs : List Call) (n : ℕ) (out : List ℕ) → After (n + steps_in a) (out ++ output_in a) r → AllAsked cs
         → After (n + (steps_in a + steps_of (served r cs))) (out ++ (output_in a ++ output_of (served r cs))) (served r cs).1
     asked_more a r cs n out x ih =
         let y = ih (n + steps_in a) (out ++ output_in a) x.state x.end x.stands in
-        let P : Run → Type 0 = λ r. After ((n + steps_in a) + steps_of (served r cs)) ((out ++ output_in a) ++ output_of (served r cs)) (served r cs).1 in
-        regroup n (steps_in a) (steps_of (served r cs)) out (output_in a) (output_of (served r cs)) (served r cs).1 (subst P (sym x.is) y)
+        regroup n (steps_in a) (steps_of (served r cs)) out (output_in a) (output_of (served r cs)) (served r cs).1 (rw x.is y)
 
     asked_all : (calls : List Call) → AllAsked calls
     asked_all [] = same
@@ -189,9 +179,7 @@ module _ (l : Limits) (code : List Instruction) where
     pub comes_to : (calls : List Call) → After (steps_of (served (at s₀ None) calls)) (output_of (served (at s₀ None) calls)) (served (at s₀ None) calls).1
     comes_to calls =
         let x = asked_all calls 0 [] s₀ None (0, record { steps = refl; output = refl; state = refl; end = refl }) in
-        let e : 0 + steps_of (served (at s₀ None) calls) ≡ steps_of (served (at s₀ None) calls) = omega arith in
-        let P : ℕ → Type 0 = λ n. After n (output_of (served (at s₀ None) calls)) (served (at s₀ None) calls).1 in
-        subst P e x
+        rw zero-add at x
 
 -- The laws.
 
@@ -201,8 +189,8 @@ module _ (code : List Instruction) (numbers : List ℤ) where
       let s₀ : State = start numbers in
       let n : ℕ = h.stands.0 in
       let m = h.stands.1 in
-      let P : ℕ → Type 0 = λ k. (course l code k s₀).steps ≡ k in
-      let made : (course l code (steps_of x) s₀).steps ≡ steps_of x = subst P m.steps (steps-made l code n s₀) in
+      let counted = steps-made l code n s₀ in
+      let made : (course l code (steps_of x) s₀).steps ≡ steps_of x = rw m.steps at counted in
       let same : Level (course l code (steps_of x) s₀) (course l code n s₀) = same_count l l code (steps_of x) n s₀ (made ∙ sym m.steps) in
       let state : (course l code (steps_of x) s₀).state ≡ x.1.state = same.state ∙ m.state ∙ sym (ap (λ (r : Run). r.state) h.is) in
       let end : (course l code n s₀).end ≡ x.1.end = m.end ∙ sym (ap (λ (r : Run). r.end) h.is) in
@@ -281,8 +269,7 @@ idle-first r x rest e f h = record {
 pub ended_stays : EndedStays
 ended_stays r e [] h = record { steps = refl; output = refl; run = refl }
 ended_stays r e (run budget buffer ∷ cs) h =
-    let P : Ran → Type 0 = λ x. Idle r ((told x).0 ∷ (served (told x).1 cs).0, (served (told x).1 cs).1) in
-    subst P (sym (idle-ran r e budget buffer h)) (idle-first r (told (declined HasEnded r buffer)) (served r cs) refl refl (ended_stays r e cs h))
+    rw (idle-ran r e budget buffer h) (idle-first r (told (declined HasEnded r buffer)) (served r cs) refl refl (ended_stays r e cs h))
 ended_stays r e (tally ∷ cs) h = idle-first r (answered r tally) (served r cs) refl refl (ended_stays r e cs h)
 ended_stays r e (look i ∷ cs) h = idle-first r (answered r (look i)) (served r cs) refl refl (ended_stays r e cs h)
 ended_stays r e (force i ∷ cs) h = idle-first r (answered r (force i)) (served r cs) refl refl (ended_stays r e cs h)

@@ -1,6 +1,8 @@
 -- What holds of every state that a run comes to, and what an act has to meet for it to last.
-use Rattle.std.proofs.Common.{◌≡◌, ℕ, suc, ◌+◌, ◌≤◌, Bool, true, false, ◌⊎◌, List, [], ◌∷◌, map, reverse, length, Some, None, Option, sym, refl, ap, ◌∙◌, subst, inl, inr, arith, length-append}
+use Rattle.std.proofs.Common.{◌≡◌, ℕ, suc, ◌+◌, ◌≤◌, Bool, true, false, ◌⊎◌, List, [], ◌∷◌, map, reverse, length, Some, None, Option, sym, refl, ap, ◌∙◌, inl, inr, arith, length-append}
 use Rattle.std.specs.List.{AllByRecursion as All}
+use Rattle.std.specs.Option.{option_map}
+use Rattle.std.proofs.lemmas.List.{length-map}
 use Rattle.std.proofs.lemmas.Bool.{cond_both}
 use Rattle.std.proofs.ByRecursion.{All-push, All-map, All-weaker, All-set}
 use Rattle.cell.specs.declared.value.Value.{Value}
@@ -24,8 +26,8 @@ use Rattle.machine.specs.State.{State, Capture, capture_name, for_many, wind_num
 use Rattle.machine.specs.Apply.{registers_after, globals_after, below, replaced, saved_frames, frames_after, winds_after, marked_in, promoted, capture, held_after, made_after, used_after, forgotten_after, numbered_after, entered_after, left_after, apply, halted}
 use Rattle.laws.specs.Counts.{Conserved, Made, ValueMade, FrameMade, NamesMade}
 use Rattle.laws.specs.Reached.{SomeWind}
-use Rattle.laws.proofs.Counting.{Numbered, numbered-up, numbered-fresh, numbered_less, numbered_push, Prefix, length-map}
-use Rattle.laws.proofs.Named.{names, find-all, find_push, find-kept, mapped, find-map, names_push, names-map, length_without, count-without, all_without}
+use Rattle.laws.proofs.Counting.{Numbered, numbered-up, numbered-fresh, numbered_less, numbered_push, Prefix}
+use Rattle.laws.proofs.Named.{names, find-all, find_push, find-kept, find-map, names_push, names-map, length_without, count-without, all_without}
 use Rattle.laws.proofs.Frames.{Walk, walk_weaker}
 use Rattle.laws.proofs.Planned.{write_names, Holds}
 
@@ -168,7 +170,7 @@ all_changed P test cs h k =
     (All-weaker P (λ c. P (changed capture_name test for_many c)) (λ c p. cond_both (test c.name.0) (for_many c) c P (λ e. h c p) (λ e. p)) cs k)
 
 pub length-promoted : (fs : List Frame) (cs : List Capture) → length (promoted fs cs) ≡ length cs
-length-promoted fs cs = length-map (changed capture_name (marked_in fs) for_many) cs
+length-promoted fs cs = length-map cs (changed capture_name (marked_in fs) for_many)
 
 -- P of every capture that is held after a move, if P of those before and of the new one
 pub all-held_after : (P : Capture → Type 0) (s : State) (fs : List Frame) (m : NameMove) → ((c : Capture) → P c → P (for_many c))
@@ -190,8 +192,8 @@ module _ (s : State) (k : Sound s) (fs : List Frame) where
   was_itself n c e = record { before = c; found = e; same = refl }
 
   was_changed : (n : ℕ) (c : Capture) (o : Option Capture) → find capture_name s.held n ≡ o
-      → mapped capture_name (changed capture_name (marked_in fs) for_many) o ≡ Some c → Was n c
-  was_changed n c None e f = absurd (let z : ◌≡◌ {A = ℕ} 0 1 = cc in omega arith)
+      → option_map (changed capture_name (marked_in fs) for_many) o ≡ Some c → Was n c
+  was_changed n c None e f = cc
   was_changed n c (Some d) e f =
       let i : changed capture_name (marked_in fs) for_many d ≡ c = cc in
       record { before = d; found = e; same = sym (changed-winds (marked_in fs) d) ∙ ap (λ (x : Capture). x.winds) i }
@@ -216,8 +218,7 @@ module _ (s : State) (k : Sound s) (fs : List Frame) where
   entering-after m (Toss n v) gs ws p h = tt
   entering-after m (Enter n v) gs ws p h = λ c e.
       let w : Was n.0 c = was m n.0 c p e in
-      let P : List Wind → Type 0 = λ us. Prefix (reverse ws) (reverse (wind_numbers us)) in
-      subst P w.same (h w.before w.found)
+      rw (← w.same) (h w.before w.found)
 
   -- frames that fit still fit after a move of the names
   fits_after : (m : NameMove) (gs : List Frame) (ws : List ℕ) → All (EntersMade s) gs → Fits s.held gs ws → Fits (held_after s fs m) gs ws
@@ -352,10 +353,8 @@ module _ (s : State) (a : Act) (k : Sound s) (g : Legal s a) where
   captures-after : All SoundAfter (held_after s fs a.names)
   captures-after =
       all-held_after SoundAfter s fs a.names (λ c h. record { winds = h.winds; frames = h.frames })
-      (λ e. let P : NameMove → Type 0 = Owned s fs in
-      capture-after (capture s false fs) enters-after (record { winds = k.winds; frames = subst P e g.owned }))
-      (λ e. let P : NameMove → Type 0 = Owned s fs in
-      capture-after (capture s true (below fs)) (all-below (EntersMade s) fs enters-after) (record { winds = k.winds; frames = subst P e g.owned }))
+      (λ e. capture-after (capture s false fs) enters-after (record { winds = k.winds; frames = rw e at g.owned }))
+      (λ e. capture-after (capture s true (below fs)) (all-below (EntersMade s) fs enters-after) (record { winds = k.winds; frames = rw e at g.owned }))
       (both s.held enters-saved k.captures)
 
 -- Counts.

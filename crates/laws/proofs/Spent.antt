@@ -1,86 +1,72 @@
 -- A one-shot continuation comes back at most once.
-use Rattle.std.proofs.Common.{◌≡◌, ℕ, zero, suc, ◌≤◌, Bool, true, false, cond, eqb, ltb, leb, List, [], ◌∷◌, reverse, length, Some, None, Ok, Err, Option, sym, refl, ap, ◌∙◌, subst, inl, inr, arith}
-use lib.ListN.{length-reverse}
-use Rattle.std.specs.Option.{ok_or}
+use Rattle.std.proofs.Common.{◌≡◌, ℕ, zero, suc, ◌≤◌, Bool, true, false, cond, ltb, leb, List, [], ◌∷◌, reverse, length, Some, None, Ok, Err, Option, sym, refl, ap, ◌∙◌, inl, inr, arith}
+use Rattle.std.proofs.lemmas.List.{length-map, length-reverse}
 use Rattle.std.proofs.lemmas.Option.{slice_get_past}
 use Rattle.std.proofs.lemmas.Bool.{cond-true, eq-eqb, le-ltb}
 use Rattle.cell.specs.declared.name.Name.{Name}
 use Rattle.cell.specs.declared.value.Value.{Value}
 use Rattle.cell.specs.declared.frame.Frame.{Frame}
 use Rattle.cell.specs.declared.frame.Frame.TheVariants.{Mark}
-use Rattle.cell.specs.declared.wind.Wind.{Wind}
 use Rattle.code.specs.declared.instruction.Instruction.{Instruction}
 use Rattle.machine.specs.declared.act.Act.{Act}
-use Rattle.machine.specs.declared.next.Next.TheVariants.{Halt, Go}
 use Rattle.machine.specs.declared.end.End.{End}
-use Rattle.machine.specs.declared.end.End.TheVariants.{NotHeld, StepLimit}
-use Rattle.machine.specs.declared.name_move.NameMove.{NameMove}
+use Rattle.machine.specs.declared.end.End.TheVariants.{StepLimit}
 use Rattle.machine.specs.declared.name_move.NameMove.TheVariants.{Keep as KeepNames, Use}
-use Rattle.machine.specs.declared.mode.Mode.{Mode}
 use Rattle.machine.specs.declared.mode.Mode.TheVariants.{Returning, Throwing}
 use Rattle.machine.specs.Named.{find}
 use Rattle.machine.specs.State.{State, Capture, Limits, capture_name, wind_number, wind_numbers, start}
-use Rattle.machine.specs.Checks.{◌>>=◌}
-use Rattle.machine.specs.Acts.{Plan, moves, framing, naming, does}
-use Rattle.machine.specs.Returning.{spends, wind_at, return}
-use Rattle.machine.specs.Throwing.{common, shared, unwind}
-use Rattle.machine.specs.Plan.{plan, plan_in}
-use Rattle.machine.specs.Apply.{frames_after, held_after, apply, Event}
+use Rattle.machine.specs.Acts.{Plan}
+use Rattle.machine.specs.Returning.{spends, wind_at}
+use Rattle.machine.specs.Throwing.{common, shared}
+use Rattle.machine.specs.Plan.{plan}
+use Rattle.machine.specs.Apply.{frames_after, apply, Event}
 use Rattle.machine.specs.Admission.{refusal}
 use Rattle.machine.specs.Step.{Outcome, went, finished, refused, admit, settle, most_steps, step}
 use Rattle.machine.specs.Course.{follow, course}
 use Rattle.laws.specs.OneShot.{Released, ComesBack, OneShotOnce}
-use Rattle.laws.proofs.Counting.{length-map}
 use Rattle.laws.proofs.Named.{find-removed}
 use Rattle.laws.proofs.Sound.{Sound, made_up, Was, was}
 use Rattle.laws.proofs.Steps.{Reached, Good, MadeStep, made-step, good_step, good_course, start_reached}
 
 -- a step that went carried out the act that was planned
 went_is : (l : Limits) (code : List Instruction) (s t : State) (b : List ℕ) (es : List Event) → step l code s ≡ went t b es
-    → (a : Act) × (plan code s ≡ Ok (Go a)) × (t ≡ apply s a)
+    → (a : Act) × (plan code s ≡ Ok (Some a)) × (t ≡ apply s a)
 went_is l code s t b es = limit (leb most_steps s.counts.steps)
   where
-    admitted : (a : Act) (o : Option End) → plan code s ≡ Ok (Go a) → admit s a o ≡ went t b es → (a : Act) × (plan code s ≡ Ok (Go a)) × (t ≡ apply s a)
+    admitted : (a : Act) (o : Option End) → plan code s ≡ Ok (Some a) → admit s a o ≡ went t b es → (a : Act) × (plan code s ≡ Ok (Some a)) × (t ≡ apply s a)
     admitted a None p e = (a, p, cc)
-    admitted a (Some d) p e = absurd (let z : ◌≡◌ {A = ℕ} 0 1 = cc in omega arith)
+    admitted a (Some d) p e = cc
 
-    settled : (p : Plan) → plan code s ≡ p → settle l s p ≡ went t b es → (a : Act) × (plan code s ≡ Ok (Go a)) × (t ≡ apply s a)
-    settled (Err d) p e = absurd (let z : ◌≡◌ {A = ℕ} 0 1 = cc in omega arith)
-    settled (Ok Halt) p e = absurd (let z : ◌≡◌ {A = ℕ} 0 1 = cc in omega arith)
-    settled (Ok (Go a)) p e = admitted a (refusal l s a) p e
+    settled : (p : Plan) → plan code s ≡ p → settle l s p ≡ went t b es → (a : Act) × (plan code s ≡ Ok (Some a)) × (t ≡ apply s a)
+    settled (Err d) p e = cc
+    settled (Ok None) p e = cc
+    settled (Ok (Some a)) p e = admitted a (refusal l s a) p e
 
-    limit : (c : Bool) → cond c (refused StepLimit) (settle l s (plan code s)) ≡ went t b es → (a : Act) × (plan code s ≡ Ok (Go a)) × (t ≡ apply s a)
-    limit true e = absurd (let z : ◌≡◌ {A = ℕ} 0 1 = cc in omega arith)
+    limit : (c : Bool) → cond c (refused StepLimit) (settle l s (plan code s)) ≡ went t b es → (a : Act) × (plan code s ≡ Ok (Some a)) × (t ≡ apply s a)
+    limit true e = cc
     limit false e = settled (plan code s) refl e
 
 common_self : (xs : List ℕ) → common xs xs ≡ length xs
 common_self [] = refl
-common_self (x ∷ xs) = cond-true (eqb x x) (suc (common xs xs)) 0 (eq-eqb x x refl) ∙ ap suc (common_self xs)
+common_self (x ∷ xs) = rw (eq-eqb x x refl, common_self xs)
 
 -- an act that spends a name
 abbrev Spends : Capture → Name → Plan → Type 0
-Spends c n p = (a : Act) × (p ≡ Ok (Go a)) × (a.names ≡ spends c n)
+Spends c n p = (a : Act) × (p ≡ Ok (Some a)) × (a.names ≡ spends c n)
 
 module _ (s : State) (code : List Instruction) (n : Name) (c : Capture) (found : find capture_name s.held n.0 ≡ Some c) where
   spends_mark : (fs : List Frame) → s.mode ≡ Returning → s.frames ≡ Mark n ∷ fs → Spends c n (plan code s)
   spends_mark fs e f =
-      let P : Mode → Type 0 = λ m. Spends c n (plan_in m code s) in
-      let Q : List Frame → Type 0 = λ gs. Spends c n (return gs s) in
-      let R : Option Capture → Type 0 = λ o. Spends c n (ok_or o NotHeld >>= λ d. does (naming (spends d n) (framing Rattle.machine.specs.declared.frame_move.FrameMove.TheVariants.Pop (moves Returning)))) in
-      subst P (sym e) (subst Q (sym f) (subst R (sym found) (_, refl, refl)))
+      rw (e, f, found) (_, refl, refl)
 
   spends-throw : (v : Value) → s.mode ≡ Throwing n v → wind_numbers s.winds ≡ wind_numbers c.winds → Spends c n (plan code s)
   spends-throw v e f =
       let deep : shared s.winds c.winds ≡ length s.winds =
-      ap (λ xs. common (reverse (wind_numbers s.winds)) (reverse xs)) (sym f) ∙ common_self (reverse (wind_numbers s.winds)) ∙ length-reverse (wind_numbers s.winds) ∙ length-map wind_number s.winds in
-      let long : length s.winds ≡ length c.winds = sym (length-map wind_number s.winds) ∙ ap length f ∙ length-map wind_number c.winds in
+      ap (λ xs. common (reverse (wind_numbers s.winds)) (reverse xs)) (sym f) ∙ common_self (reverse (wind_numbers s.winds)) ∙ length-reverse (wind_numbers s.winds) ∙ length-map s.winds wind_number in
+      let long : length s.winds ≡ length c.winds = sym (length-map s.winds wind_number) ∙ ap length f ∙ length-map c.winds wind_number in
       let out : ltb (shared s.winds c.winds) (length s.winds) ≡ false = le-ltb _ _ (omega arith) in
       let past : wind_at c.winds (shared s.winds c.winds) ≡ None = slice_get_past (reverse c.winds) _ (omega (arith, length-reverse c.winds)) in
-      let P : Mode → Type 0 = λ m. Spends c n (plan_in m code s) in
-      let Q : Option Capture → Type 0 = λ o. Spends c n (ok_or o NotHeld >>= λ d. unwind (ltb (shared s.winds d.winds) (length s.winds)) (wind_at d.winds (shared s.winds d.winds)) d n v s) in
-      let R : Bool → Type 0 = λ x. Spends c n (unwind x (wind_at c.winds (shared s.winds c.winds)) c n v s) in
-      let T : Option Wind → Type 0 = λ o. Spends c n (unwind false o c n v s) in
-      subst P (sym e) (subst Q (sym found) (subst R (sym out) (subst T (sym past) (_, refl, refl))))
+      rw (e, found, out, past) (_, refl, refl)
 
   comes_back : ComesBack s n c → Spends c n (plan code s)
   comes_back (inl x) = spends_mark x.0 x.1 x.2
@@ -93,9 +79,7 @@ spent l code s k n c t b es found once back e =
     let x = comes_back s code n c found back in
     let same : x.0 ≡ w.0 = cc in
     let used : w.0.names ≡ Use n = sym (ap (λ (a : Act). a.names) same) ∙ x.2 ∙ cond-true c.once (Use n) KeepNames once in
-    let P : NameMove → Type 0 = λ m. find capture_name (held_after s (frames_after s w.0.frames) m) n.0 ≡ None in
-    let Q : State → Type 0 = λ u. Released u n.0 in
-    subst Q (sym w.2) (subst P (sym used) (find-removed capture_name s.held n.0 (k.names n.0).0))
+    rw (w.2, used) (find-removed capture_name s.held n.0 (k.names n.0).0)
 
 -- a name that was made and is not held stays so
 none_found : (n : ℕ) (o : Option Capture) → ((c : Capture) → o ≡ Some c → ⊥) → o ≡ None
@@ -113,7 +97,7 @@ gone-step l code s n k g =
       none_found n _ (λ c f.
           let w : Was s k (frames_after s a.frames) n c = was s k (frames_after s a.frames) a.names n c g.0 f in
           let z : ◌≡◌ {A = Option Capture} (Some w.before) None = sym w.found ∙ g.1 in
-          let y : ◌≡◌ {A = ℕ} 0 1 = cc in omega arith),
+          cc),
     ))
 
 gone-course : (l : Limits) (code : List Instruction) (m : ℕ) (s : State) (n : ℕ) → Reached l s → Gone n s → Gone n (course l code m s).state

@@ -1,5 +1,5 @@
 -- What holds of every step that is made, and so of every course of steps.
-use Rattle.std.proofs.Common.{◌≡◌, ℕ, zero, suc, ◌+◌, ◌<◌, ◌≤◌, Bool, true, false, cond, leb, List, [], ◌∷◌, ◌++◌, map, length, ℤ, Some, None, Ok, Err, Option, refl, ap, subst, arith, length-append}
+use Rattle.std.proofs.Common.{◌≡◌, ℕ, zero, suc, ◌+◌, ◌<◌, ◌≤◌, Bool, true, false, cond, leb, List, [], ◌∷◌, ◌++◌, map, length, ℤ, Some, None, Ok, Err, Option, refl, ap, arith, length-append}
 use Rattle.std.specs.List.{AllByRecursion as All}
 use Rattle.std.proofs.lemmas.Bool.{leb-true, leb-false, ltb-true}
 use Rattle.cell.specs.declared.frame.Frame.{Frame}
@@ -7,7 +7,6 @@ use Rattle.cell.specs.declared.wind.Wind.{Wind}
 use Rattle.cell.specs.declared.value.Value.TheVariants.{Number}
 use Rattle.code.specs.declared.instruction.Instruction.{Instruction}
 use Rattle.machine.specs.declared.act.Act.{Act}
-use Rattle.machine.specs.declared.next.Next.TheVariants.{Halt, Go}
 use Rattle.machine.specs.declared.end.End.{End}
 use Rattle.machine.specs.declared.end.End.TheVariants.{StepLimit}
 use Rattle.machine.specs.declared.frame_move.FrameMove.{FrameMove}
@@ -42,25 +41,25 @@ MadeStep P (refused e) = Unit {0}
 -- it is enough to look at the act that is planned and admitted
 pub made-step : (P : State → List Event → Type 0) (l : Limits) (code : List Instruction) (s : State)
     → (s.counts.steps < most_steps → P (halted s) [])
-    → ((a : Act) → s.counts.steps < most_steps → plan code s ≡ Ok (Go a) → refusal l s a ≡ None → P (apply s a) (events s a.winds))
+    → ((a : Act) → s.counts.steps < most_steps → plan code s ≡ Ok (Some a) → refusal l s a ≡ None → P (apply s a) (events s a.winds))
     → MadeStep P (step l code s)
 made-step P l code s h k = limit (leb most_steps s.counts.steps) refl
   where
-    admitted : (a : Act) (o : Option End) → s.counts.steps < most_steps → plan code s ≡ Ok (Go a) → refusal l s a ≡ o → MadeStep P (admit s a o)
+    admitted : (a : Act) (o : Option End) → s.counts.steps < most_steps → plan code s ≡ Ok (Some a) → refusal l s a ≡ o → MadeStep P (admit s a o)
     admitted a None u p e = k a u p e
     admitted a (Some d) u p e = tt
 
     settled : (p : Plan) → s.counts.steps < most_steps → plan code s ≡ p → MadeStep P (settle l s p)
     settled (Err e) u q = tt
-    settled (Ok Halt) u q = h u
-    settled (Ok (Go a)) u q = admitted a (refusal l s a) u q refl
+    settled (Ok None) u q = h u
+    settled (Ok (Some a)) u q = admitted a (refusal l s a) u q refl
 
     limit : (b : Bool) → leb most_steps s.counts.steps ≡ b → MadeStep P (cond b (refused StepLimit) (settle l s (plan code s)))
     limit true e = tt
     limit false e = settled (plan code s) (leb-false most_steps s.counts.steps e) refl
 
-pub acts_of : (P : Act → Type 0) (p : Plan) (a : Act) → p ≡ Ok (Go a) → Acts P p → P a
-acts_of P p a e h = let Q : Plan → Type 0 = Acts P in subst Q e h
+pub acts_of : (P : Act → Type 0) (p : Plan) (a : Act) → p ≡ Ok (Some a) → Acts P p → P a
+acts_of P p a e h = rw e at h
 
 -- What some steps do to the winds, by their numbers and in all, and how many steps they are.
 pub record Traced (s t : State) (n : ℕ) (es : List Event) : Type 0 where
@@ -111,23 +110,23 @@ traced_stay s = record { each = λ k. refl; entered = omega arith; left = omega 
 
 entering-++ : (es fs : List Event) → entering (es ++ fs) ≡ entering es + entering fs
 entering-++ [] fs = omega arith
-entering-++ (enters n ∷ es) fs = let i = entering-++ es fs in omega arith
+entering-++ (enters n ∷ es) fs = omega (arith, entering-++ es fs)
 entering-++ (leaves n ∷ es) fs = entering-++ es fs
 
 leaving-++ : (es fs : List Event) → leaving (es ++ fs) ≡ leaving es + leaving fs
 leaving-++ [] fs = omega arith
 leaving-++ (enters n ∷ es) fs = leaving-++ es fs
-leaving-++ (leaves n ∷ es) fs = let i = leaving-++ es fs in omega arith
+leaving-++ (leaves n ∷ es) fs = omega (arith, leaving-++ es fs)
 
 entering_of-++ : (k : ℕ) (es fs : List Event) → entering_of k (es ++ fs) ≡ entering_of k es + entering_of k fs
 entering_of-++ k [] fs = omega arith
-entering_of-++ k (enters n ∷ es) fs = let i = entering_of-++ k es fs in omega arith
+entering_of-++ k (enters n ∷ es) fs = omega (arith, entering_of-++ k es fs)
 entering_of-++ k (leaves n ∷ es) fs = entering_of-++ k es fs
 
 leaving_of-++ : (k : ℕ) (es fs : List Event) → leaving_of k (es ++ fs) ≡ leaving_of k es + leaving_of k fs
 leaving_of-++ k [] fs = omega arith
 leaving_of-++ k (enters n ∷ es) fs = leaving_of-++ k es fs
-leaving_of-++ k (leaves n ∷ es) fs = let i = leaving_of-++ k es fs in omega arith
+leaving_of-++ k (leaves n ∷ es) fs = omega (arith, leaving_of-++ k es fs)
 
 traced_++ : (s t u : State) (n : ℕ) (es fs : List Event) → Traced s t 1 es → Traced t u n fs → Traced s u (suc n) (es ++ fs)
 traced_++ s t u n es fs p q = record {
@@ -170,9 +169,9 @@ counted-within c w m u h = record {
 -- An act that is admitted keeps within the limits.
 
 passes : (l : Limits) (f w n : Bool) → first_refusal l f w n ≡ None → (f ≡ true) × (w ≡ true) × (n ≡ true)
-passes l false w n e = absurd (let z : ◌≡◌ {A = ℕ} 0 1 = cc in omega arith)
-passes l true false n e = absurd (let z : ◌≡◌ {A = ℕ} 0 1 = cc in omega arith)
-passes l true true false e = absurd (let z : ◌≡◌ {A = ℕ} 0 1 = cc in omega arith)
+passes l false w n e = cc
+passes l true false n e = cc
+passes l true true false e = cc
 passes l true true true e = (refl, refl, refl)
 
 length-below : {A : Type 0} (xs : List A) → length (below xs) ≤ length xs
@@ -188,7 +187,7 @@ module _ (l : Limits) (s : State) (k : Within l s) where
   Fitting c = (length c.frames ≤ l.frames) × (length c.winds ≤ l.winds)
 
   room : (g : ℕ) → frames_pass l s g ≡ true → length s.frames + g ≤ l.frames
-  room zero e = let h = k.frames in omega arith
+  room zero e = omega (arith, k.frames)
   room (suc g) e = leb-true (length s.frames + suc g) l.frames e
 
   length-saved : (o : Option Capture) (n : ℕ) → find capture_name s.held n ≡ o → length (saved_frames o s.frames) ≤ l.frames
@@ -199,8 +198,8 @@ module _ (l : Limits) (s : State) (k : Within l s) where
   length-frames Keep h = omega arith
   length-frames (Push f) h = omega arith
   length-frames (PushBoth f g) h = omega arith
-  length-frames Pop h = let i = length-below s.frames in omega arith
-  length-frames (Replace f) h = let i = length-replaced f s.frames in omega arith
+  length-frames Pop h = omega (arith, length-below s.frames)
+  length-frames (Replace f) h = omega (arith, length-replaced f s.frames)
   length-frames (Restore n) h = length-saved (find capture_name s.held n.0) n.0 refl
 
   length-winds : (w : WindMove) → winds_pass l s w ≡ true → length (winds_after s w) ≤ l.winds

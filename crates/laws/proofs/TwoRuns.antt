@@ -1,5 +1,5 @@
 -- Two runs, at every two moments.
-use Rattle.std.proofs.Common.{◌≡◌, ℕ, zero, suc, Bool, true, false, List, [], ◌∷◌, take, ℤ, Some, None, sym, refl, ap, ◌∙◌, subst, subst₂, arith}
+use Rattle.std.proofs.Common.{◌≡◌, ℕ, zero, suc, Bool, true, false, List, [], ◌∷◌, take, ℤ, Some, sym, refl, ap, ◌∙◌, subst, subst₂}
 use Rattle.std.specs.List.{slice_get}
 use Rattle.code.specs.declared.instruction.Instruction.{Instruction}
 use Rattle.machine.specs.declared.end.End.{End}
@@ -16,17 +16,11 @@ use Rattle.laws.proofs.Served.{in_order, ended_stays, opening_decides, calls_joi
 
 -- Single answers.
 
-none_is_some : {A : Type 0} (x : A) → None ≡ Some x → ⊥
-none_is_some x h = let z : ◌≡◌ {A = ℕ} 0 1 = cc in omega arith
-
-the_same : {A : Type 0} (x y : A) → Some x ≡ Some y → x ≡ y
-the_same x y h = cc
-
 -- the answer at an index is that to the call at this index, of the run as the calls before left it
 answer_at : (r : Run) (calls : List Call) (i : ℕ) (q : Call) → slice_get calls i ≡ Some q
     → slice_get (served r calls).0 i ≡ Some (answered (served r (take i calls)).1 q).0
-answer_at r [] i q h = absurd (none_is_some q h)
-answer_at r (c ∷ cs) zero q h = ap (λ d. Some (answered r d).0) (the_same c q h)
+answer_at r [] i q h = cc
+answer_at r (c ∷ cs) zero q h = cc h
 answer_at r (c ∷ cs) (suc i) q h = answer_at (answered r c).1 cs i q h
 
 -- the tally in an answer, or another if there is none
@@ -45,9 +39,10 @@ own_tally r (force k) = refl
 
 tally-at : (r : Run) (calls : List Call) (i : ℕ) (t : Tally) → slice_get (served r calls).0 i ≡ Some (to_tally t)
     → t ≡ tallied (served r (take i calls)).1.state (served r (take i calls)).1.end
-tally-at r [] i t h = absurd (none_is_some (to_tally t) h)
+tally-at r [] i t h = cc
 tally-at r (c ∷ cs) zero t h =
-    sym (ap (λ a. tally_in a (tallied r.state r.end)) (the_same (answered r c).0 (to_tally t) h)) ∙ own_tally r c
+    let i : (answered r c).0 ≡ to_tally t = cc in
+    sym (ap (λ a. tally_in a (tallied r.state r.end)) i) ∙ own_tally r c
 tally-at r (c ∷ cs) (suc i) t h = tally-at (answered r c).1 cs i t h
 
 -- Ends.
@@ -91,9 +86,7 @@ module _ (code : List Instruction) (numbers : List ℤ) where
         go true h = let c = one_course i h in (c.told, c.conserved)
         go false h =
             let d = idle i h in
-            let P : Run → Type 0 = λ q. (q.state.counts.steps ≡ 0) × Conserved q.state in
-            let c : P (at-moment i).1 = subst P (sym d.run) (refl, record { names = refl; winds = refl }) in
-            (c.0 ∙ sym d.steps, c.1)
+            rw (d.run, d.steps) (refl, record { names = refl; winds = refl })
 
     pub as_defined : AsDefined code numbers (defined frames winds calls)
     as_defined = record {

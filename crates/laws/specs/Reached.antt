@@ -8,7 +8,6 @@ use Rattle.cell.specs.declared.frame.Frame.TheVariants.{Saved, Back, Mark, In, O
 use Rattle.cell.specs.declared.wind.Wind.{Wind}
 use Rattle.code.specs.declared.instruction.Instruction.{Instruction}
 use Rattle.machine.specs.declared.act.Act.{Act}
-use Rattle.machine.specs.declared.next.Next.TheVariants.{Go}
 use Rattle.machine.specs.declared.wind_move.WindMove.TheVariants.{Reenter}
 use Rattle.machine.specs.declared.frame_move.FrameMove.TheVariants.{Restore}
 use Rattle.machine.specs.declared.mode.Mode.{Mode}
@@ -56,7 +55,7 @@ pub record Unreached (l : Limits) (s : State) : Type 0 where
   -- a throw never ends for want of a wind to leave
   pub throw_finds_wind : (code : List Instruction) (n : Name) (v : Value) → s.mode ≡ Throwing n v → plan code s ≢ Err WrongFrame
   -- a saved wind that is entered again has its place
-  pub reentry_has_place : (code : List Instruction) (a : Act) (w : Wind) → plan code s ≡ Ok (Go a) → a.winds ≡ Reenter w → length s.winds < l.winds
+  pub reentry_has_place : (code : List Instruction) (a : Act) (w : Wind) → plan code s ≡ Ok (Some a) → a.winds ≡ Reenter w → length s.winds < l.winds
   -- a plan ends with 30 to 34 only
   pub plan_ends : (code : List Instruction) (e : End) → plan code s ≡ Err e → PlanEnd e
   -- the next name is not held yet
@@ -97,7 +96,7 @@ pub record WindsStand (s : State) : Type 0 where
   -- but for throws, those whose bodies are running: no before and no after runs with its own wind in force
   pub as_bodies : AtRest s.mode → NoThrow s.frames → length s.winds ≡ bodies s.frames
   -- and a throw comes to its end only with the winds that were saved, by their numbers
-  pub as_saved : (code : List Instruction) (a : Act) (n : Name) (c : Capture) → plan code s ≡ Ok (Go a) → a.frames ≡ Restore n
+  pub as_saved : (code : List Instruction) (a : Act) (n : Name) (c : Capture) → plan code s ≡ Ok (Some a) → a.frames ≡ Restore n
       → find capture_name s.held n.0 ≡ Some c → wind_numbers s.winds ≡ wind_numbers c.winds
 
 -- that always

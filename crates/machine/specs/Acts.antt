@@ -1,8 +1,6 @@
 -- Acts, put together from what they change besides the mode.
-use Rattle.std.specs.Prelude.{ℤ, Some, None, Ok}
+use Rattle.std.specs.Prelude.{ℤ, Some, None, Ok, Option}
 use Rattle.machine.specs.declared.act.Act.{Act}
-use Rattle.machine.specs.declared.next.Next.{Next}
-use Rattle.machine.specs.declared.next.Next.TheVariants.{Go}
 use Rattle.machine.specs.declared.write.Write.{Write}
 use Rattle.machine.specs.declared.write.Write.TheVariants.{Nothing}
 use Rattle.machine.specs.declared.frame_move.FrameMove.{FrameMove}
@@ -14,9 +12,9 @@ use Rattle.machine.specs.declared.name_move.NameMove.TheVariants.{Keep as KeepNa
 use Rattle.machine.specs.declared.mode.Mode.{Mode}
 use Rattle.machine.specs.Checks.{Checked}
 
--- what a step would do, whatever the limits are: an end, or what comes next
+-- what a step would do, whatever the limits are: an act, or none where the run ends well, or the end that a check gives
 abbrev pub Plan : Type 0
-Plan = Checked Next
+Plan = Checked (Option Act)
 
 -- the mode, and nothing else
 abbrev pub moves : Mode → Act
@@ -44,4 +42,4 @@ printing z a = record { write = a.write; frames = a.frames; winds = a.winds; nam
 
 -- the plan to carry out an act
 abbrev pub does : Act → Plan
-does a = Ok (Go a)
+does a = Ok (Some a)

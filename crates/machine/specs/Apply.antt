@@ -1,5 +1,5 @@
 -- The state after an act, and what happened to the winds.
-use Rattle.std.specs.Prelude.{ℕ, ◌+◌, Bool, true, false, List, [], ◌∷◌, ◌++◌, Some, None, Option, slice_set}
+use Rattle.std.specs.Prelude.{ℕ, ◌+◌, Bool, true, false, List, [], ◌∷◌, ◌++◌, Some, None, Option, slice_set, flat_map}
 use Rattle.cell.specs.declared.address.Address.{Address}
 use Rattle.cell.specs.declared.value.Value.{Value}
 use Rattle.cell.specs.declared.frame.Frame.{Frame}
@@ -17,7 +17,7 @@ use Rattle.machine.specs.declared.name_move.NameMove.TheVariants.{Keep as KeepNa
 use Rattle.machine.specs.declared.mode.Mode.{Mode}
 use Rattle.machine.specs.declared.mode.Mode.TheVariants.{Going, Returning, Throwing}
 use Rattle.machine.specs.Named.{find, without, changed_all}
-use Rattle.machine.specs.Names.{mark_names, gathered, stands}
+use Rattle.machine.specs.Names.{mark_names, stands}
 use Rattle.machine.specs.State.{State, Capture, Counts, capture_name, for_many}
 use Rattle.machine.specs.Going.{next_name}
 
@@ -87,7 +87,7 @@ events s Leave = leaves_top s.winds
 
 -- whether the frames have a Mark of a name
 abbrev pub marked_in : List Frame → ℕ → Bool
-marked_in fs n = stands n (gathered mark_names fs)
+marked_in fs n = stands n (flat_map mark_names fs)
 
 -- the captures, those whose name has a Mark in the frames serving for many throws from now on
 abbrev pub promoted : List Frame → List Capture → List Capture

@@ -1,7 +1,7 @@
 -- What each call on a run answers and leaves.
 use Rattle.std.specs.Prelude.{ℕ, zero, suc, ◌+◌, ◌-◌, cond, ◌||◌, List, [], ◌∷◌, ◌++◌, reverse, length, take, drop, is_some, Some, None, Ok, Err, Option, Result, nat_lt}
 use Rattle.std.specs.List.{slice_get}
-use Rattle.std.specs.Option.{ok_or}
+use Rattle.std.specs.Option.{ok_or, option_map}
 use Rattle.cell.specs.declared.frame.Frame.{Frame}
 use Rattle.cell.specs.declared.wind.Wind.{Wind}
 use Rattle.cell.specs.declared.address.Address.{Address}
@@ -104,10 +104,9 @@ last_address s = trying s.mode s.tried
 
 -- how a run ended, if it has
 abbrev pub ending : Option End → State → Option Ending
-ending None s = None
-ending (Some e) s = Some (record { end = e; address = last_address s })
+ending end s = option_map (λ e. record { end = e; address = last_address s }) end
 
--- the figures of names and of winds
+-- the figures of names
 abbrev pub name_tally : State → NameTally
 name_tally s = record { made = s.counts.made; used = s.counts.used; forgotten = s.counts.forgotten; held = length s.held }
 
@@ -119,11 +118,11 @@ wind_tally s = record { entered = s.counts.entered; left = s.counts.left; curren
 abbrev pub tallied : State → Option End → Tally
 tallied s end = record { steps = s.counts.steps; names = name_tally s; winds = wind_tally s; ending = ending end s }
 
--- what look and force answer: the frame or the wind at an index, from the bottom
+-- what look answers: the frame at an index, from the bottom
 abbrev pub looked : State → ℕ → Result Frame IndexRefusal
 looked s i = ok_or (slice_get (reverse s.frames) i) Beyond
 
--- what force answers
+-- what force answers: the wind at an index, from the bottom
 abbrev pub forced : State → ℕ → Result Wind IndexRefusal
 forced s i = ok_or (slice_get (reverse s.winds) i) Beyond
 

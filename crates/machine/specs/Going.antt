@@ -9,7 +9,6 @@ use Rattle.cell.specs.declared.frame.Frame.TheVariants.{Saved, Back, Mark, In, O
 use Rattle.code.specs.declared.register.Register.{Register}
 use Rattle.code.specs.declared.instruction.Instruction.{Instruction}
 use Rattle.code.specs.declared.instruction.Instruction.TheVariants.{Set, Proc, Load, Store, Add, Sub, Less, Jump, Zero, Push, Pop, Print, Call, Tail, CallCc, CallOnce, Forget, DynamicWind, Return, Stop}
-use Rattle.machine.specs.declared.next.Next.TheVariants.{Halt}
 use Rattle.machine.specs.declared.write.Write.TheVariants.{Register as ToRegister, Global as ToGlobal}
 use Rattle.machine.specs.declared.frame_move.FrameMove.{FrameMove}
 use Rattle.machine.specs.declared.frame_move.FrameMove.TheVariants.{Keep as KeepFrames, Push as PushOne, PushBoth, Pop as PopOne}
@@ -113,7 +112,7 @@ execute (DynamicWind a b c) s p =
 -- `ret`: the top frame is returned to
 execute Return s p = does (moves Returning)
 -- `stop`: the run ends, and no after is called
-execute Stop s p = Ok Halt
+execute Stop s p = Ok None
 
 -- the instruction at an address, if the code has one there
 abbrev pub fetched : Option Instruction → State → Address → Plan

@@ -1,11 +1,10 @@
 -- Lists of things that have a name each. The first thing of a name is the one that the name means.
-use Rattle.std.specs.Prelude.{ℕ, Bool, cond, List, [], ◌∷◌, map, Some, None, Option, ◌==◌}
+use Rattle.std.specs.Prelude.{ℕ, Bool, cond, List, [], ◌∷◌, map, Option, ◌==◌}
 
 module _ {A : Type 0} (name : A → ℕ) where
-  -- the thing of a name, if there is one
+  -- the thing of a name, if there is one: by the library's search
   abbrev pub find : List A → ℕ → Option A
-  find [] n = None
-  find (x ∷ xs) n = cond (name x == n) (Some x) (find xs n)
+  find xs n = Rattle.std.specs.List.find (λ x. name x == n) xs
 
   -- the list without the thing of a name
   abbrev pub without : List A → ℕ → List A

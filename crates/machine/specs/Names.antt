@@ -1,5 +1,5 @@
 -- The names of continuations that stand in values, frames and modes.
-use Rattle.std.specs.Prelude.{ℕ, Bool, true, false, cond, List, [], ◌∷◌, ◌++◌, ◌==◌}
+use Rattle.std.specs.Prelude.{ℕ, Bool, true, false, cond, List, [], ◌∷◌, ◌==◌}
 use Rattle.cell.specs.declared.value.Value.{Value}
 use Rattle.cell.specs.declared.value.Value.TheVariants.{Empty, Number, Procedure, Continuation}
 use Rattle.cell.specs.declared.frame.Frame.{Frame}
@@ -41,11 +41,6 @@ abbrev pub mode_names : Mode → List ℕ
 mode_names (Going p) = []
 mode_names Returning = []
 mode_names (Throwing n v) = n.0 ∷ value_names v
-
--- the names in each thing of a list
-abbrev pub gathered : {A : Type 0} → (A → List ℕ) → List A → List ℕ
-gathered names [] = []
-gathered names (x ∷ xs) = names x ++ gathered names xs
 
 -- whether a name stands in a list of names
 abbrev pub stands : ℕ → List ℕ → Bool

@@ -14,7 +14,7 @@ pub record Offer : Type 0 where
   pub held_limit : ℕ
   pub limit_level : ℕ
 
--- the least depth limits, for frames and for winds, and the least held limit of either
+-- the least depth limit for frames
 abbrev pub least_frames : ℕ
 least_frames = 16
 

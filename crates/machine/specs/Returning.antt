@@ -5,7 +5,6 @@ use Rattle.cell.specs.declared.name.Name.{Name}
 use Rattle.cell.specs.declared.frame.Frame.{Frame}
 use Rattle.cell.specs.declared.frame.Frame.TheVariants.{Saved, Back, Mark, In, Out, Hold, Toss, Enter}
 use Rattle.cell.specs.declared.wind.Wind.{Wind}
-use Rattle.machine.specs.declared.next.Next.TheVariants.{Halt}
 use Rattle.machine.specs.declared.write.Write.TheVariants.{Register as ToRegister}
 use Rattle.machine.specs.declared.frame_move.FrameMove.TheVariants.{Pop, Replace}
 use Rattle.machine.specs.declared.wind_move.WindMove.{WindMove}
@@ -56,5 +55,5 @@ resume (Enter n v) s =
 
 -- with no frame the run ends well
 abbrev pub return : List Frame → State → Plan
-return [] s = Ok Halt
+return [] s = Ok None
 return (f ∷ fs) s = resume f s

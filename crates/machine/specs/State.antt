@@ -33,7 +33,7 @@ capture_name c = c.name.0
 abbrev pub for_many : Capture → Capture
 for_many c = record { name = c.name; once = false; frames = c.frames; winds = c.winds }
 
--- the numbers of winds, in their order
+-- the number of a wind
 abbrev pub wind_number : Wind → ℕ
 wind_number w = w.number.0
 

@@ -2,7 +2,6 @@
 use Rattle.std.specs.Prelude.{ℕ, cond, List, Some, None, Ok, Err, Option, nat_le}
 use Rattle.code.specs.declared.instruction.Instruction.{Instruction}
 use Rattle.machine.specs.declared.act.Act.{Act}
-use Rattle.machine.specs.declared.next.Next.TheVariants.{Halt, Go}
 use Rattle.machine.specs.declared.end.End.{End}
 use Rattle.machine.specs.declared.end.End.TheVariants.{StepLimit}
 use Rattle.machine.specs.State.{State, Limits}
@@ -29,8 +28,8 @@ admit s a (Some e) = refused e
 -- a plan, held against the limits and carried out
 abbrev pub settle : Limits → State → Plan → Outcome
 settle l s (Err e) = refused e
-settle l s (Ok Halt) = finished (halted s)
-settle l s (Ok (Go a)) = admit s a (refusal l s a)
+settle l s (Ok None) = finished (halted s)
+settle l s (Ok (Some a)) = admit s a (refusal l s a)
 
 -- how many steps a run can make
 abbrev pub most_steps : ℕ

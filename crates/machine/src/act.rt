@@ -7,6 +7,7 @@ use crate::wind_move::WindMove;
 use crate::write::Write;
 
 /// What a step does, decided before any of it is done.
+/// A part that changes nothing is a variant, not `None`: a match on it stays one level deep.
 #[derive(Clone, Copy)]
 pub struct Act {
     pub write: Write,

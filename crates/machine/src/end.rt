@@ -1,7 +1,10 @@
 //! How a run ends.
 
-/// How a run ends; `end_number` in specs/Numbers.antt gives each its number.
-#[derive(Clone, Copy)]
+ghost use Rattle.std.specs.Prelude.{◌≡◌};
+ghost use Rattle.machine.specs.Numbers.{end_number};
+
+/// How a run ends.
+#[derive(Clone, Copy, PartialEq, Eq, Debug)]
 pub enum End {
     /// By `stop`, or by a return with no frame.
     Finished,
@@ -25,4 +28,25 @@ pub enum End {
     UnfitStores,
     /// As many steps were made as a run may make.
     StepLimit,
+}
+
+impl End {
+    /// The number that callers know it by.
+    pub fn number(self) -> u32
+        ensures { result ≡ end_number self }
+    {
+        match self {
+            End::Finished => 0,
+            End::WrongKind => 30,
+            End::SumOutOfRange => 31,
+            End::WrongFrame => 32,
+            End::NotHeld => 33,
+            End::OffTheEnd => 34,
+            End::FrameLimit(_) => 40,
+            End::WindLimit(_) => 41,
+            End::HeldLimit => 42,
+            End::UnfitStores => 43,
+            End::StepLimit => 44,
+        }
+    }
 }

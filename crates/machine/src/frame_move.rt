@@ -4,7 +4,7 @@ use cell::frame::Frame;
 use cell::name::Name;
 
 /// What a step does to the frames.
-#[derive(Clone, Copy)]
+#[derive(Clone, Copy, PartialEq, Eq, Debug)]
 pub enum FrameMove {
     Keep,
     Push(Frame),

@@ -11,8 +11,6 @@ pub mod frame_move;
 pub mod index_refusal;
 pub mod mode;
 pub mod name_move;
-pub mod next;
-pub mod numbers;
 pub mod progress;
 pub mod reason;
 pub mod run_refusal;

@@ -5,7 +5,7 @@ use cell::name::Name;
 use cell::value::Value;
 
 /// What the next step of a run acts on.
-#[derive(Clone, Copy)]
+#[derive(Clone, Copy, PartialEq, Eq, Debug)]
 pub enum Mode {
     /// The instruction at the address comes next.
     Going(Address),

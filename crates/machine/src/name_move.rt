@@ -3,7 +3,7 @@
 use cell::name::Name;
 
 /// What a step does to the held names. What is saved are the winds in force, and the frames after their move.
-#[derive(Clone, Copy)]
+#[derive(Clone, Copy, PartialEq, Eq, Debug)]
 pub enum NameMove {
     Keep,
     /// A new name is held for many throws, and so is from now on each held name that has a Mark in the frames.

@@ -3,7 +3,7 @@
 use crate::reason::Reason;
 
 /// What an accepted `run` call did.
-#[derive(Clone, Copy)]
+#[derive(Clone, Copy, PartialEq, Eq, Debug)]
 pub struct Progress {
     /// Steps made.
     pub steps: u32,

@@ -4,7 +4,7 @@ use crate::end::End;
 use cell::address::Address;
 
 /// The names of a run.
-#[derive(Clone, Copy)]
+#[derive(Clone, Copy, PartialEq, Eq, Debug)]
 pub struct NameTally {
     pub made: u32,
     /// Released by a Mark or by a throw.
@@ -15,7 +15,7 @@ pub struct NameTally {
 }
 
 /// The winds of a run.
-#[derive(Clone, Copy)]
+#[derive(Clone, Copy, PartialEq, Eq, Debug)]
 pub struct WindTally {
     pub entered: u32,
     pub left: u32,
@@ -24,14 +24,14 @@ pub struct WindTally {
 }
 
 /// How a run ended, and the last address that it was Going at, 0 if none.
-#[derive(Clone, Copy)]
+#[derive(Clone, Copy, PartialEq, Eq, Debug)]
 pub struct Ending {
     pub end: End,
     pub address: Address,
 }
 
 /// What a run tells of itself.
-#[derive(Clone, Copy)]
+#[derive(Clone, Copy, PartialEq, Eq, Debug)]
 pub struct Tally {
     pub steps: u32,
     pub names: NameTally,

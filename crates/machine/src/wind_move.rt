@@ -4,7 +4,7 @@ use cell::address::Address;
 use cell::wind::Wind;
 
 /// What a step does to the winds in force.
-#[derive(Clone, Copy)]
+#[derive(Clone, Copy, PartialEq, Eq, Debug)]
 pub enum WindMove {
     Stay,
     /// A wind of the next number, with its before and its after, is entered.
