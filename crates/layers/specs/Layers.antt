@@ -1,5 +1,5 @@
 -- What a layer means, from the meaning of the store below it.
-use Rattle.std.specs.Prelude.{ℕ, ◌+◌, ◌-◌, ◌^◌, min, cond, List, ◌++◌, nat_lt}
+use Rattle.std.specs.Prelude.{ℕ, ◌+◌, ◌-◌, ◌^◌, min, cond, List, ◌++◌, length, nat_lt}
 use Rattle.store.specs.Meaning.{Meaning, with_current}
 
 -- one above a height; the greatest word stays
@@ -27,6 +27,10 @@ raised m = record {
   height = above m.height;
   limit_level = m.limit_level;
 }
+
+-- how many cells more a store has room for
+abbrev pub room_left : {A : Type 0} → Meaning A → ℕ
+room_left m = m.depth_limit - length m.current
 
 -- the store below a cache, with the cache's cells moved down
 abbrev pub lowered : {A : Type 0} → List A → Meaning A → Meaning A

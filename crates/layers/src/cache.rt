@@ -2,7 +2,7 @@
 
 ghost use Rattle.std.specs.Prelude.{◌≡◌, ◌-◌, ◌^◌, ◌≤◌, false, [], length, is_ok};
 ghost use Rattle.store.specs.Meaning.{saved};
-ghost use Rattle.layers.specs.Layers.{topped, lowered, raised};
+ghost use Rattle.layers.specs.Layers.{topped, lowered, raised, room_left};
 
 use arrayvec::ArrayVec;
 use cell::cell::Cell;
@@ -19,7 +19,7 @@ pub const CAPACITY: usize = 8;
 pub struct Cache<S: Store> {
     below: S,
     cells: ArrayVec<Cell, CAPACITY>,
-    ghost room: { length cells.items ≤ (S.Store.meaning below).depth_limit - length (S.Store.meaning below).current },
+    ghost room: { length cells.items ≤ room_left (S.Store.meaning below) },
     ghost counted: { length cells.items ≤ 2 ^ 32 - 1 - length (S.Store.meaning below).current },
 }
 
@@ -58,7 +58,7 @@ impl<S: Store> Cache<S> {
 
 /// Pushes some cells that there is room for, the lowest first.
 fn push_all<S: Store>(store: &mut S, cells: &[Cell])
-    requires { length cells.now ≤ (S.Store.meaning store.old).depth_limit - length (S.Store.meaning store.old).current }
+    requires { length cells.now ≤ room_left (S.Store.meaning store.old) }
     ensures call { S.Store.meaning store.new ≡ lowered cells.now (S.Store.meaning store.old) }
     ensures memory { S.Store.fixed store.new ≡ S.Store.fixed store.old }
 {
