@@ -1,5 +1,7 @@
 //! A long list of calls, made by arithmetic from a number, on any store.
 
+ghost use Rattle.std.specs.Prelude.{◌<◌};
+
 use crate::answers::Answers;
 use cell::cell::{Cell, WIDTH};
 use cell::name::Name;
@@ -19,7 +21,7 @@ const NAMES: u32 = 8;
 const INDICES: u32 = 24;
 
 /// Where the generator is.
-#[derive(Clone, Copy)]
+#[derive(Drop)]
 pub struct Caller {
     state: u64,
 }
@@ -30,10 +32,12 @@ impl Caller {
     }
 
     /// The next number below a limit.
-    fn below(&mut self, limit: u32) -> u32 {
+    fn below(&mut self, limit: u32) -> u32
+        requires { 0 < limit }
+        ensures { result < limit }
+    {
         self.state = self.state.wrapping_mul(STEP).wrapping_add(SHIFT);
-        let high = ((self.state >> 33) & 0x7fff_ffff) as u32;
-        if limit == 0 { 0 } else { high % limit }
+        (self.state >> 33) as u32 % limit
     }
 
     fn name(&mut self) -> Name {
@@ -47,44 +51,28 @@ impl Caller {
         }
     }
 
-    fn change<S: Store>(&mut self, store: &mut S, choice: u32, answers: &mut Answers) {
-        match choice {
-            0..=11 => answers.done(store.push(self.cell())),
-            12..=17 => answers.cell(store.pop()),
-            18..=20 => answers.done(store.save(self.name())),
-            21..=22 => answers.done(store.restore(self.name())),
-            23 => answers.done(store.take(self.name())),
-            _ => answers.done(store.release(self.name())),
-        }
-    }
-
-    fn ask<S: Store>(&mut self, store: &S, choice: u32, answers: &mut Answers) {
-        match choice {
-            25..=26 => answers.cell(store.cell_at(self.below(INDICES))),
-            27 => answers.number(store.saved_len(self.name())),
-            28..=29 => {
-                let name = self.name();
-                answers.cell(store.saved_cell(name, self.below(INDICES)));
-            }
-            30 => answers.word(store.held()),
-            _ => {
-                answers.word(store.len());
-                answers.word(store.depth_limit());
-                answers.word(store.held_limit());
-            }
+    /// Makes one call, and adds what the store answered.
+    fn one<S: Store>(&mut self, store: &mut S, answers: &mut Answers) {
+        match self.below(CHOICES) {
+            0..=11 => answers.add(store.push(self.cell())),
+            12..=17 => answers.add(store.pop()),
+            18..=20 => answers.add(store.save(self.name())),
+            21..=22 => answers.add(store.restore(self.name())),
+            23 => answers.add(store.take(self.name())),
+            24 => answers.add(store.release(self.name())),
+            25..=26 => answers.add(store.cell_at(self.below(INDICES))),
+            27 => answers.add(store.saved_len(self.name())),
+            28..=29 => answers.add(store.saved_cell(self.name(), self.below(INDICES))),
+            30 => answers.add(Ok(store.held())),
+            _ => answers.add(Ok((store.len(), store.depth_limit(), store.held_limit()))),
         }
     }
 
     /// Makes so many calls, and tells what the store answered.
     pub fn call<S: Store>(&mut self, store: &mut S, times: u32) -> Answers {
-        let mut answers = Answers::none();
+        let mut answers = Answers::default();
         for _ in 0..times {
-            let choice = self.below(CHOICES);
-            if choice < 25 {
-                self.change(store, choice, &mut answers);
-            } else {
-                self.ask(store, choice, &mut answers);
-            }
+            self.one(store, &mut answers);
         }
         answers
     }

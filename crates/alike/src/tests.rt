@@ -10,6 +10,7 @@ use linked::linked::Linked;
 use linked::node::Node;
 use std::alloc::{AllocError, Global};
 use std::test::Fail;
+use store::store::Store;
 
 const DEPTH: u32 = 20;
 
@@ -36,30 +37,15 @@ fn copied(heap: Global, depth: u32) -> Result<Copied, AllocError> {
     Ok(Copied::new(memory, depth, HELD))
 }
 
-fn on_linked(heap: Global) -> Result<Answers, AllocError> {
-    let mut store = linked(heap)?;
-    Ok(Caller::new(BEGINNING).call(&mut store, CALLS))
-}
-
-fn on_copied(heap: Global) -> Result<Answers, AllocError> {
-    let mut store = copied(heap, DEPTH)?;
-    Ok(Caller::new(BEGINNING).call(&mut store, CALLS))
-}
-
-fn on_quota_cache_copied(heap: Global) -> Result<Answers, AllocError> {
-    let mut store = Quota::new(Cache::new(copied(heap, 32)?), DEPTH);
-    Ok(Caller::new(BEGINNING).call(&mut store, CALLS))
-}
-
-fn on_two_caches_linked(heap: Global) -> Result<Answers, AllocError> {
-    let mut store = Cache::new(Cache::new(linked(heap)?));
-    Ok(Caller::new(BEGINNING).call(&mut store, CALLS))
+/// What a store answers to the calls.
+fn answers<S: Store + Drop>(mut store: S) -> Answers {
+    Caller::new(BEGINNING).call(&mut store, CALLS)
 }
 
 // The depth limit and the held limit are met many times, and a bottom store's limit is its own.
 #[test]
 fn limits_are_met(rt: HostRuntime) -> Result<(), Fail> {
-    let answers = on_linked(rt.alloc())?;
+    let answers = answers(linked(rt.alloc())?);
     assert!(rt; answers.times_full > 100);
     assert!(rt; answers.times_held_full > 100);
     assert_eq!(rt; answers.level, 0);
@@ -68,21 +54,23 @@ fn limits_are_met(rt: HostRuntime) -> Result<(), Fail> {
 
 #[test]
 fn copied_as_linked(rt: HostRuntime) -> Result<(), Fail> {
-    assert_eq!(rt; on_copied(rt.alloc())?, on_linked(rt.alloc())?);
+    let copied = answers(copied(rt.alloc(), DEPTH)?);
+    assert_eq!(rt; copied, answers(linked(rt.alloc())?));
     Ok(())
 }
 
 #[test]
 fn two_caches_as_linked(rt: HostRuntime) -> Result<(), Fail> {
-    assert_eq!(rt; on_two_caches_linked(rt.alloc())?, on_linked(rt.alloc())?);
+    let cached = answers(Cache::new(Cache::new(linked(rt.alloc())?)));
+    assert_eq!(rt; cached, answers(linked(rt.alloc())?));
     Ok(())
 }
 
 // The quota is two layers above the bottom, and it is its limit that is met.
 #[test]
 fn quota_as_linked_but_for_its_level(rt: HostRuntime) -> Result<(), Fail> {
-    let bottom = on_linked(rt.alloc())?;
-    let layered = on_quota_cache_copied(rt.alloc())?;
+    let bottom = answers(linked(rt.alloc())?);
+    let layered = answers(Quota::new(Cache::new(copied(rt.alloc(), 32)?), DEPTH));
     assert_eq!(rt; layered, Answers { level: 2, ..bottom });
     Ok(())
 }

@@ -1,5 +1,5 @@
 -- What a layer means, from the meaning of the store below it.
-use Rattle.std.specs.Prelude.{ℕ, ◌+◌, ◌-◌, ◌^◌, min, cond, List, ◌++◌, length, take, nat_lt}
+use Rattle.std.specs.Prelude.{ℕ, ◌+◌, ◌-◌, ◌^◌, min, cond, List, ◌++◌, length, nat_lt}
 use Rattle.store.specs.Meaning.{Meaning, with_current}
 
 -- one above a height; the greatest word stays
@@ -28,15 +28,14 @@ raised m = record {
   limit_level = m.limit_level;
 }
 
--- how many of its own cells a cache has on top: as many as the store below has room for, which are all of them in a
--- cache that was made empty and has been called since
-abbrev pub kept_count : {A : Type 0} → ℕ → Meaning A → ℕ
-kept_count count m = min count (m.depth_limit - length m.current)
+-- how many cells more a store has room for
+abbrev pub room_left : {A : Type 0} → Meaning A → ℕ
+room_left m = m.depth_limit - length m.current
 
 -- the store below a cache, with the cache's cells moved down
-abbrev pub lowered : {A : Type 0} → List A → ℕ → Meaning A → Meaning A
-lowered table count m = with_current m (m.current ++ take (kept_count count m) table)
+abbrev pub lowered : {A : Type 0} → List A → Meaning A → Meaning A
+lowered cells m = with_current m (m.current ++ cells)
 
 -- a cache with some cells of its own over a store
-abbrev pub topped : {A : Type 0} → List A → ℕ → Meaning A → Meaning A
-topped table count m = raised (lowered table count m)
+abbrev pub topped : {A : Type 0} → List A → Meaning A → Meaning A
+topped cells m = raised (lowered cells m)

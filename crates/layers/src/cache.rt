@@ -1,10 +1,11 @@
 //! A layer that keeps the top cells itself.
 
-ghost use Rattle.std.specs.Prelude.{◌≡◌, ◌+◌, ◌-◌, ◌^◌, ◌<◌, ◌≤◌, false, length, is_ok, Ok};
+ghost use Rattle.std.specs.Prelude.{◌≡◌, ◌-◌, ◌^◌, ◌≤◌, false, [], length, is_ok};
 ghost use Rattle.store.specs.Meaning.{saved};
-ghost use Rattle.layers.specs.Layers.{topped, lowered, raised, kept_count};
+ghost use Rattle.layers.specs.Layers.{topped, lowered, raised, room_left};
 
-use cell::cell::{Cell, WIDTH};
+use arrayvec::ArrayVec;
+use cell::cell::Cell;
 use cell::name::Name;
 use store::refusal::Refusal;
 use store::store::Store;
@@ -13,114 +14,87 @@ use store::store::Store;
 pub const CAPACITY: usize = 8;
 
 /// A store that keeps up to eight cells itself, on top of those of the store below.
-/// There is always room below for them; cells beyond that room would not count, so nothing has to be assumed of the store below.
+/// There is always room below for them, and the length of the two together is a word.
 #[derive(Drop)]
-pub struct Cache<S> {
+pub struct Cache<S: Store> {
     below: S,
-    table: [Cell; CAPACITY],
-    count: usize,
-    ghost sized: { length table ≡ 8 },
-    ghost within: { count ≤ 8 },
+    cells: ArrayVec<Cell, CAPACITY>,
+    ghost room: { length cells.items ≤ room_left (S.Store.meaning below) },
+    ghost counted: { length cells.items ≤ 2 ^ 32 - 1 - length (S.Store.meaning below).current },
 }
 
 impl<S: Store> Cache<S> {
     /// A cache over a store, with no cell of its own yet.
     pub fn new(below: S) -> Self
         ensures below { result.below ≡ below }
-        ensures empty { result.count ≡ 0 }
-        ensures call { topped result.table result.count (S.Store.meaning result.below) ≡ raised (S.Store.meaning below) }
+        ensures empty { result.cells.items ≡ [] }
+        ensures call { topped result.cells.items (S.Store.meaning result.below) ≡ raised (S.Store.meaning below) }
     {
         Cache {
             below,
-            table: [Cell { words: [0; WIDTH] }; CAPACITY],
-            count: 0,
+            cells: ArrayVec::new(),
         }
     }
 
     /// Moves the cache's cells down, and gives back the store below.
     pub fn into_below(mut self) -> S
-        ensures call { S.Store.meaning result ≡ lowered self.table self.count (S.Store.meaning self.below) }
+        ensures call { S.Store.meaning result ≡ lowered self.cells.items (S.Store.meaning self.below) }
         ensures memory { S.Store.fixed result ≡ S.Store.fixed self.below }
     {
-        // Each of these pushes has room, so this is never refused.
-        let _ = self.move_down();
-        let Cache {
-            below,
-            table: _,
-            count: _,
-        } = self;
-        below
+        self.move_down();
+        self.below
     }
 
-    /// How many cells the store below has room for.
-    fn room(&self) -> usize
-        ensures value { result ≡ (S.Store.meaning self.now.below).depth_limit - length (S.Store.meaning self.now.below).current }
-        ensures fits { length (S.Store.meaning self.now.below).current + result < 2 ^ 32 }
-    {
-        self.below.depth_limit().saturating_sub(self.below.len()) as usize
-    }
-
-    /// How many cells the cache has on top, all of which have room below.
-    fn kept(&self) -> usize
-        ensures value { result ≡ kept_count self.now.count (S.Store.meaning self.now.below) }
-        ensures fits { length (S.Store.meaning self.now.below).current + result < 2 ^ 32 }
-    {
-        self.count.min(self.room())
-    }
-
-    /// Moves the cells that the cache has on top to the store below, the lowest first.
-    fn move_down(&mut self) -> Result<(), Refusal>
-        ensures answer { result ≡ Ok tt }
-        ensures emptied { self.new.count ≡ 0 }
-        ensures moved { S.Store.meaning self.new.below ≡ lowered self.old.table self.old.count (S.Store.meaning self.old.below) }
+    /// Moves the cache's cells to the store below, the lowest first.
+    fn move_down(&mut self)
+        ensures emptied { self.new.cells.items ≡ [] }
+        ensures moved { S.Store.meaning self.new.below ≡ lowered self.old.cells.items (S.Store.meaning self.old.below) }
         ensures memory { S.Store.fixed self.new.below ≡ S.Store.fixed self.old.below }
     {
-        let kept = self.kept();
-        self.count = 0;
-        for i in 0..kept {
-            self.below.push(self.table[i])?;
-        }
-        Ok(())
+        push_all(&mut self.below, &self.cells);
+        self.cells.clear();
+    }
+}
+
+/// Pushes some cells that there is room for, the lowest first.
+fn push_all<S: Store>(store: &mut S, cells: &[Cell])
+    requires { length cells.now ≤ room_left (S.Store.meaning store.old) }
+    ensures call { S.Store.meaning store.new ≡ lowered cells.now (S.Store.meaning store.old) }
+    ensures memory { S.Store.fixed store.new ≡ S.Store.fixed store.old }
+{
+    for &cell in cells {
+        store.push(cell).unwrap();
     }
 }
 
 impl<S: Store> Store for Cache<S> {
     type Slot = S::Slot;
 
-    ghost meaning = { λ q. topped q.table q.count (S.Store.meaning q.below) };
+    ghost meaning = { λ q. topped q.cells.items (S.Store.meaning q.below) };
 
     ghost fixed = { λ q. S.Store.fixed q.below };
 
     fn push(&mut self, cell: Cell) -> Result<(), Refusal> {
-        let room = self.room();
-        let kept = self.count.min(room);
-        if kept == room {
-            return Err(Refusal::Full(self.below.limit_level()));
+        if self.len() >= self.depth_limit() {
+            return Err(Refusal::Full(self.limit_level()));
         }
-        if kept == CAPACITY {
-            self.move_down()?;
-            self.table[0] = cell;
-            self.count = 1;
-        } else {
-            self.table[kept] = cell;
-            self.count = kept + 1;
+        if self.cells.is_full() {
+            self.move_down();
         }
+        self.cells.push(cell);
         Ok(())
     }
 
     fn pop(&mut self) -> Result<Cell, Refusal> {
-        let kept = self.kept();
-        if kept == 0 {
-            self.count = 0;
-            return self.below.pop();
+        match self.cells.pop() {
+            Some(cell) => Ok(cell),
+            None => self.below.pop(),
         }
-        self.count = kept - 1;
-        Ok(self.table[kept - 1])
     }
 
     /// A refused save leaves the cache and the store below exactly as they were.
     fn save(&mut self, name: Name) -> Result<(), Refusal>
-        ensures call { (result, topped self.new.table self.new.count (S.Store.meaning self.new.below)) ≡ saved (topped self.old.table self.old.count (S.Store.meaning self.old.below)) name.0 }
+        ensures call { (result, topped self.new.cells.items (S.Store.meaning self.new.below)) ≡ saved (topped self.old.cells.items (S.Store.meaning self.old.below)) name.0 }
         ensures memory { S.Store.fixed self.new.below ≡ S.Store.fixed self.old.below }
         ensures refused { is_ok result ≡ false → self.new ≡ self.old }
     {
@@ -131,19 +105,19 @@ impl<S: Store> Store for Cache<S> {
         if self.below.held() >= self.below.held_limit() {
             return Err(Refusal::HeldFull);
         }
-        self.move_down()?;
+        self.move_down();
         self.below.save(name)
     }
 
     fn restore(&mut self, name: Name) -> Result<(), Refusal> {
         self.below.restore(name)?;
-        self.count = 0;
+        self.cells.clear();
         Ok(())
     }
 
     fn take(&mut self, name: Name) -> Result<(), Refusal> {
         self.below.take(name)?;
-        self.count = 0;
+        self.cells.clear();
         Ok(())
     }
 
@@ -152,15 +126,13 @@ impl<S: Store> Store for Cache<S> {
     }
 
     fn cell_at(&self, index: u32) -> Result<Cell, Refusal> {
-        let len = self.below.len();
-        if index < len {
-            return self.below.cell_at(index);
-        }
-        let own = (index - len) as usize;
-        if own < self.kept() {
-            Ok(self.table[own])
-        } else {
-            Err(Refusal::NoIndex)
+        match index.checked_sub(self.below.len()) {
+            Some(own) => self
+                .cells
+                .get(own as usize)
+                .copied()
+                .ok_or(Refusal::NoIndex),
+            None => self.below.cell_at(index),
         }
     }
 
@@ -181,7 +153,7 @@ impl<S: Store> Store for Cache<S> {
     }
 
     fn len(&self) -> u32 {
-        self.below.len() + self.kept() as u32
+        self.below.len() + self.cells.len() as u32
     }
 
     fn depth_limit(&self) -> u32 {

@@ -27,11 +27,11 @@ impl<S> Quota<S> {
     pub fn into_below(self) -> S
         ensures { result ≡ self.below }
     {
-        let Quota { below, quota: _ } = self;
-        below
+        self.below
     }
 }
 
+// Calls are forwarded one by one: an impl for every layer at once could stand only in the crate of `Store`.
 impl<S: Store> Store for Quota<S> {
     type Slot = S::Slot;
 

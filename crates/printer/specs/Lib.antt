@@ -1,3 +1,2 @@
 pub mod Guards
-pub mod Texts
 pub mod Written

@@ -2,8 +2,7 @@ use Rattle.std.proofs.Common.{arith, rules}
 use Rattle.printer.proofs.Overwrites.{restored_more}
 use Rattle.printer.proofs.line_guard.LineGuard.put.Goals as goal
 
-pub returns : goal.returns
-returns c =
+pub returns-clause-restores : goal.returns-clause-restores
+returns-clause-restores c =
     let g = c.args.self.now in
-    let kept = restored_more g.bytes.now g.old g.at g.len c.args.byte (omega arith) (omega (arith, g.sized)) in
-    record { room = search rules; bytes = search rules; len = search rules; restores = kept; start = search rules; same = search rules }
+    restored_more g.bytes.now g.old.items c.try_extend_from_slice.new.self.items c.copy_from_slice.new.self g.at _ _ (omega arith) (omega arith) (omega arith) (search rules)
