@@ -3,7 +3,7 @@
 use machine::mode::Mode;
 
 /// What a step that was not refused came to.
-#[derive(Clone, Copy)]
+#[derive(Clone, Copy, PartialEq, Eq, Debug)]
 pub enum Step {
     /// It was made.
     Made,

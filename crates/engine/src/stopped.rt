@@ -4,7 +4,7 @@ use machine::end::End;
 use machine::progress::Progress;
 
 /// What steps in a row did, and how they ended the run, if they did.
-#[derive(Clone, Copy)]
+#[derive(Clone, Copy, PartialEq, Eq, Debug)]
 pub struct Stopped {
     pub progress: Progress,
     pub end: Option<End>,

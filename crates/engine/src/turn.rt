@@ -1,7 +1,7 @@
 //! What a step with its line came to.
 
 /// What a step that was not refused came to, its line printed.
-#[derive(Clone, Copy)]
+#[derive(Clone, Copy, PartialEq, Eq, Debug)]
 pub enum Turn {
     /// It was made; the next byte that is printed has this index in the buffer.
     Went(usize),

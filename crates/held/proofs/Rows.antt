@@ -1,18 +1,13 @@
 -- Rows of a name by the library's searches.
 use Rattle.std.proofs.Common.{◌≡◌, ℕ, suc, ◌+◌, Bool, true, false, cond, eqb, List, [], ◌∷◌, Some, None, Option, sym, refl, ap, ◌∙◌, subst, arith}
-use Rattle.std.specs.List.{find, position_from, remove}
-use Rattle.machine.specs.Named.{find as found, without}
+use Rattle.std.specs.List.{position_from, remove}
+use Rattle.machine.specs.Named.{without}
 use Rattle.held.specs.declared.held_row.HeldRow.{HeldRow}
 use Rattle.held.specs.Rows.{row_name}
 
 -- whether a row is that of a name
 abbrev pub has_name : ℕ → HeldRow → Bool
 has_name n r = eqb (row_name r) n
-
--- the row of a name is the first that passes the test
-pub found_is : (rs : List HeldRow) (n : ℕ) → found row_name rs n ≡ find (has_name n) rs
-found_is [] n = refl
-found_is (r ∷ rs) n = ap (λ o. cond (has_name n r) (Some r) o) (found_is rs n)
 
 -- what an index from `a` on says of `w`, the rows without the first that it may be the index of
 abbrev pub Parted : ℕ → List HeldRow → List HeldRow → Option ℕ → Type 0

@@ -7,7 +7,7 @@ use cell::wind::Wind;
 use store::refused::Refused;
 
 /// The refusal of the store that refused.
-#[derive(Clone, Copy)]
+#[derive(Clone, Copy, PartialEq, Eq, Debug)]
 pub enum SaveRefusal {
     Frames(Refused<Frame>),
     Winds(Refused<Wind>),

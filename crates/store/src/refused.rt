@@ -7,7 +7,7 @@ use crate::refusal::Refusal;
 use std::marker::PhantomData;
 
 /// A store of elements of one kind refused a call; no other store's refusal is taken for it.
-#[derive(Clone, Copy)]
+#[derive(Clone, Copy, PartialEq, Eq, Debug)]
 pub struct Refused<E> {
     pub why: Refusal,
     of: PhantomData<E>,
