@@ -1,24 +1,47 @@
 -- What a cursor hands out, and what is left to come.
-use Rattle.std.proofs.Common.{◌≡◌, ℕ, ◌+◌, ◌-◌, ◌<◌, ◌≤◌, cond, ltb, ◌⊎◌, List, [], ◌∷◌, length, take, drop, Some, None, sym, ap, inl, inr}
-use Rattle.std.proofs.lemmas.List.{at_drop_all}
-use Rattle.std.proofs.lemmas.Bool.{lt-ltb, le-ltb}
-use Rattle.lexer.specs.Split.{lines, words, piece, uncons}
-use Rattle.lexer.proofs.Pieces.{split_parted, split_last_word, split_last_line}
+use Rattle.std.proofs.Common.{◌≡◌, ℕ, ◌+◌, ◌-◌, ◌<◌, ◌≤◌, suc, List, [], ◌∷◌, length, take, drop, Option, Some, None, Bor, sym, refl, ap, ◌∙◌, subst, arith, length-drop}
+use Rattle.std.proofs.lemmas.List.{drop-drop, take_all}
+use Rattle.std.specs.Option.{option_map, unwrap_or}
+use Rattle.lexer.specs.Split.{lines, split_once, uncons, placed, words_left, words_from, IsWithin}
+use Rattle.lexer.proofs.Pieces.{split_some, one_word, one_line, rest_after}
 
--- where the next piece begins: after a separator, or at the end
-abbrev pub Next : List ℕ → ℕ → ℕ → Type 0
-Next xs e next = ((e < length xs) × (next ≡ e + 1)) ⊎ ((length xs ≤ e) × (next ≡ e))
+-- what two borrowed lists hold
+abbrev pub held : Bor (List ℕ) × Bor (List ℕ) → List ℕ × List ℕ
+held p = (p.0.now, p.1.now)
 
-pub no_line : (xs : List ℕ) (i : ℕ) → length xs ≤ i → (None, lines (drop i xs)) ≡ uncons (lines (drop i xs))
-no_line xs i h = let e : lines (drop i xs) ≡ [] = at_drop_all lines xs i h in rw e
+pub next-line : (xs : List ℕ) (o : Option (Bor (List ℕ) × Bor (List ℕ))) (all : Bor (List ℕ) × Bor (List ℕ)) → 0 < length xs → all.0.now ≡ xs → all.1.now ≡ []
+    → option_map held o ≡ split_once 10 xs → (Some (unwrap_or o all).0.now, lines (unwrap_or o all).1.now) ≡ uncons (lines xs)
+next-line [] o all some is none e = absurd (omega arith)
+next-line (b ∷ bs) None all some is none e = rw (is, none, one_line 10 b bs (sym e))
+next-line (b ∷ bs) (Some p) all some is none e = rw (split_some 10 [] (b ∷ bs) p.0.now p.1.now (sym e))
 
-module _ (xs : List ℕ) (i e next : ℕ) where
-  pub next-line : e ≡ i + length (piece 10 (drop i xs)) → i < length xs → Next xs e next
-      → (Some (take (e - i) (drop i xs)), lines (drop next xs)) ≡ uncons (lines (drop i xs))
-  next-line at l (inl p) = rw p.1 (ap uncons (sym (split_parted 10 xs i e at [] p.0)))
-  next-line at l (inr p) = rw p.1 (ap uncons (sym (split_last_line 10 xs i e at l p.0)))
+pub words_left-placed : (at : ℕ) (ws : List (List ℕ)) → words_left (placed at ws) ≡ ws
+words_left-placed at [] = refl
+words_left-placed at (w ∷ ws) = ap (λ r. w ∷ r) (words_left-placed (at + length w + 1) ws)
 
-  pub next_word : e ≡ i + length (piece 32 (drop i xs)) → Next xs e next
-      → (Some (take (e - i) (drop i xs)), cond (ltb e (length xs)) (words (drop next xs)) []) ≡ uncons (words (drop i xs))
-  next_word at (inl p) = let t = lt-ltb _ _ p.0 in rw (t, p.1) (ap uncons (sym (split_parted 32 xs i e at ([] ∷ []) p.0)))
-  next_word at (inr p) = let t = le-ltb _ _ p.0 in rw t (ap uncons (sym (split_last_word 32 xs i e at p.0)))
+-- after a call of `next_bytes`
+pub words_left-rest : (us ws : List (ℕ × List ℕ)) → us ≡ drop 1 ws → words_left us ≡ drop 1 (words_left ws)
+words_left-rest us [] e = rw e
+words_left-rest us (w ∷ ws) e = rw e
+
+-- What is left of the line from the next word on.
+module _ (xs : List ℕ) (at : ℕ) (next : Option ℕ) (some : next ≡ Some at) (within : IsWithin xs next) where
+  at_most : at ≤ length xs
+  at_most = let h : IsWithin xs (Some at) = subst (IsWithin xs) some within in h
+
+  pub rest : take (length xs - at) (drop at xs) ≡ drop at xs
+  rest = take_all (length xs - at) (drop at xs) (omega (arith, length-drop at xs))
+
+  pub next_start : (p r : List ℕ) → Some (p, r) ≡ split_once 32 (take (length xs - at) (drop at xs)) → at + length p + 1 ≤ length xs
+  next_start p r e = let after = rest_after 32 (drop at xs) p r (sym (rw rest at e)) in omega (arith, after.0, length-drop at xs, at_most)
+
+  pub next_word : (p r : List ℕ) → Some (p, r) ≡ split_once 32 (take (length xs - at) (drop at xs))
+      → (Some (at, p), words_from xs (Some (at + length p + 1))) ≡ uncons (words_from xs next)
+  next_word p r e =
+      let cut : split_once 32 (drop at xs) ≡ Some (p, r) = sym (rw rest at e) in
+      let on : at + suc (length p) ≡ at + length p + 1 = omega arith in
+      let behind : r ≡ drop (at + length p + 1) xs = (rest_after 32 (drop at xs) p r cut).1 ∙ drop-drop (suc (length p)) at xs ∙ ap (λ k. drop k xs) on in
+      rw (some, split_some 32 ([] ∷ []) (drop at xs) p r cut, behind)
+
+  pub last_word : None ≡ split_once 32 (take (length xs - at) (drop at xs)) → (Some (at, take (length xs - at) (drop at xs)), []) ≡ uncons (words_from xs next)
+  last_word e = rw (some, rest, one_word 32 (drop at xs) (sym (rw rest at e)))

@@ -3,4 +3,3 @@ pub mod Ranges
 pub mod Digits
 pub mod Colon
 pub mod Cursors
-pub mod Letters

@@ -1,117 +1,105 @@
--- Bytes parted at a separator: where a piece ends, and what is left after it.
-use Rattle.std.proofs.Common.{◌≡◌, ℕ, suc, ◌+◌, ◌-◌, ◌<◌, ◌≤◌, Bool, true, false, cond, eqb, List, [], ◌∷◌, length, get_or, take, drop, sym, refl, ap, ◌∙◌, subst, arith, length-drop}
-use Rattle.std.proofs.lemmas.List.{at_drop_more, at_drop_all, drop-drop, drop_all, drop_more, take_all}
-use Rattle.std.proofs.lemmas.Bool.{eq-eqb, ne_eqb}
-use Rattle.lexer.specs.Split.{onto, split, piece, words, spaces}
+-- Bytes parted at a separator: the pieces, where the first ends, and how many words there are.
+use Rattle.std.proofs.Common.{◌≡◌, ℕ, ◌+◌, ◌<◌, ◌≤◌, Bool, true, false, cond, eqb, ltb, not, suc, add-one, List, [], ◌∷◌, length, take, drop, Option, Some, None, sym, refl, ap, ◌∙◌, arith}
+use Rattle.std.specs.Option.{option_map}
+use Rattle.std.specs.List.{slice_split, position_or_len}
+use Rattle.std.proofs.lemmas.List.Splits.{length-slice_split}
+use Rattle.std.proofs.lemmas.Bool.{ltb-true, ltb-false}
+use Rattle.lexer.specs.Split.{onto, split, split_once, words, spaces}
 
--- One byte further.
+parts : (u v : List ℕ × List ℕ) → Some u ≡ Some v → (v.0 ≡ u.0) × (v.1 ≡ u.1)
+parts u v e = let f : v ≡ u = cc in (ap (λ x. x.0) f, ap (λ x. x.1) f)
 
-abbrev size : ℕ → List ℕ → ℕ
-size s ys = length (piece s ys)
+-- What is before the first separator is the first piece, and the others are those of what follows.
 
-pub piece_more : (s : ℕ) (xs : List ℕ) (i : ℕ) → i < length xs → (get_or xs i 0 ≡ s → ⊥) → length (piece s (drop i xs)) ≡ length (piece s (drop (i + 1) xs)) + 1
-piece_more s xs i h ne =
-    let e : eqb (get_or xs i 0) s ≡ false = ne_eqb _ _ ne in
-    at_drop_more (size s) xs i 0 h ∙ rw e (omega arith)
+split_some_by : (s : ℕ) (last : List (List ℕ)) (b : ℕ) (bs : List ℕ) (t : Bool) (o : Option (List ℕ × List ℕ)) → o ≡ split_once s bs
+    → ((p r : List ℕ) → split_once s bs ≡ Some (p, r) → split s last bs ≡ p ∷ split s last r)
+    → (p r : List ℕ) → cond {A = Option (List ℕ × List ℕ)} t (Some ([], bs)) (option_map (λ q. (b ∷ q.0, q.1)) o) ≡ Some (p, r)
+    → cond t ([] ∷ split s last bs) (onto b (split s last bs)) ≡ p ∷ split s last r
+split_some_by s last b bs true o is more p r e = let f = parts ([], bs) (p, r) e in rw (f.0, f.1)
+split_some_by s last b bs false None is more p r e = cc
+split_some_by s last b bs false (Some q) is more p r e =
+    let f = parts (b ∷ q.0, q.1) (p, r) e in
+    rw (f.0, f.1) (ap (onto b) (more q.0 q.1 (sym is)))
 
-pub piece-stop : (s : ℕ) (xs : List ℕ) (i : ℕ) → i < length xs → get_or xs i 0 ≡ s → length (piece s (drop i xs)) ≡ 0
-piece-stop s xs i h q =
-    let e : eqb (get_or xs i 0) s ≡ true = eq-eqb _ _ q in
-    at_drop_more (size s) xs i 0 h ∙ rw e
+pub split_some : (s : ℕ) (last : List (List ℕ)) (xs p r : List ℕ) → split_once s xs ≡ Some (p, r) → split s last xs ≡ p ∷ split s last r
+split_some s last [] p r e = cc
+split_some s last (b ∷ bs) p r e = split_some_by s last b bs (eqb b s) (split_once s bs) refl (λ q t f. split_some s last bs q t f) p r e
 
-pub piece_last : (s : ℕ) (xs : List ℕ) (i : ℕ) → length xs ≤ i → length (piece s (drop i xs)) ≡ 0
-piece_last s xs i h = at_drop_all (size s) xs i h
+-- What follows the first separator lies behind it.
 
--- A piece is the front of what it begins.
+rest_by : (s b : ℕ) (bs : List ℕ) (t : Bool) (o : Option (List ℕ × List ℕ)) → o ≡ split_once s bs
+    → ((p r : List ℕ) → split_once s bs ≡ Some (p, r) → (length p < length bs) × (r ≡ drop (suc (length p)) bs))
+    → (p r : List ℕ) → cond {A = Option (List ℕ × List ℕ)} t (Some ([], bs)) (option_map (λ q. (b ∷ q.0, q.1)) o) ≡ Some (p, r)
+    → (length p < suc (length bs)) × (r ≡ drop (suc (length p)) (b ∷ bs))
+rest_by s b bs true o is more p r e = let f = parts ([], bs) (p, r) e in rw (f.0, f.1) (omega arith, refl)
+rest_by s b bs false None is more p r e = cc
+rest_by s b bs false (Some q) is more p r e =
+    let f = parts (b ∷ q.0, q.1) (p, r) e in
+    let m = more q.0 q.1 (sym is) in
+    rw (f.0, f.1) (omega (arith, m.0), m.1)
 
-take_piece_by : (s b : ℕ) (bs : List ℕ) (t : Bool) → take (length (piece s bs)) bs ≡ piece s bs → take (length (cond t [] (b ∷ piece s bs))) (b ∷ bs) ≡ cond t [] (b ∷ piece s bs)
-take_piece_by s b bs true h = refl
-take_piece_by s b bs false h = ap (λ r. b ∷ r) h
+pub rest_after : (s : ℕ) (xs p r : List ℕ) → split_once s xs ≡ Some (p, r) → (length p < length xs) × (r ≡ drop (suc (length p)) xs)
+rest_after s [] p r e = cc
+rest_after s (b ∷ bs) p r e = rest_by s b bs (eqb b s) (split_once s bs) refl (λ q t f. rest_after s bs q t f) p r e
 
-pub take-piece : (s : ℕ) (ys : List ℕ) → take (length (piece s ys)) ys ≡ piece s ys
-take-piece s [] = refl
-take-piece s (b ∷ bs) = take_piece_by s b bs (eqb b s) (take-piece s bs)
+-- Where the first separator is.
 
--- A piece that a separator ends.
+abbrev pub at : ℕ → List ℕ → ℕ
+at s xs = position_or_len (λ b. eqb b s) xs
 
-parted_by : (s : ℕ) (last : List (List ℕ)) (b : ℕ) (bs : List ℕ) (t : Bool)
-    → (length (piece s bs) < length bs → split s last bs ≡ piece s bs ∷ split s last (drop (suc (length (piece s bs))) bs))
-    → length (cond t [] (b ∷ piece s bs)) < suc (length bs)
-    → cond t ([] ∷ split s last bs) (onto b (split s last bs)) ≡ cond t [] (b ∷ piece s bs) ∷ split s last (drop (suc (length (cond t [] (b ∷ piece s bs)))) (b ∷ bs))
-parted_by s last b bs true more h = refl
-parted_by s last b bs false more h = ap (onto b) (more (omega arith))
+some_at_by : (s b : ℕ) (bs : List ℕ) (t : Bool) (n : ℕ) → (n < length bs → split_once s bs ≡ Some (take n bs, drop (suc n) bs)) → cond (not t) (1 + n) 0 < suc (length bs)
+    → cond {A = Option (List ℕ × List ℕ)} t (Some ([], bs)) (option_map (λ q. (b ∷ q.0, q.1)) (split_once s bs)) ≡ Some (take (cond (not t) (1 + n) 0) (b ∷ bs), drop (suc (cond (not t) (1 + n) 0)) (b ∷ bs))
+some_at_by s b bs true n more h = refl
+some_at_by s b bs false n more h = let e : 1 + n ≡ suc n = omega arith in rw (more (omega arith), e)
 
-parted : (s : ℕ) (last : List (List ℕ)) (ys : List ℕ) → length (piece s ys) < length ys → split s last ys ≡ piece s ys ∷ split s last (drop (suc (length (piece s ys))) ys)
-parted s last [] h = absurd (let z : ⊥ = omega arith in z)
-parted s last (b ∷ bs) h = parted_by s last b bs (eqb b s) (parted s last bs) h
+some_at : (s : ℕ) (xs : List ℕ) → at s xs < length xs → split_once s xs ≡ Some (take (at s xs) xs, drop (suc (at s xs)) xs)
+some_at s [] h = absurd (omega arith)
+some_at s (b ∷ bs) h = some_at_by s b bs (eqb b s) (at s bs) (λ l. some_at s bs l) h
 
--- A piece that ends the bytes: as a word, and, where it is not empty, as a line.
+none_at_by : (s b : ℕ) (bs : List ℕ) (t : Bool) (n : ℕ) → (length bs ≤ n → split_once s bs ≡ None) → suc (length bs) ≤ cond (not t) (1 + n) 0
+    → cond {A = Option (List ℕ × List ℕ)} t (Some ([], bs)) (option_map (λ q. (b ∷ q.0, q.1)) (split_once s bs)) ≡ None
+none_at_by s b bs true n more h = absurd (omega arith)
+none_at_by s b bs false n more h = rw (more (omega arith))
 
-last_word_by : (s b : ℕ) (bs : List ℕ) (t : Bool) → (length bs ≤ length (piece s bs) → split s ([] ∷ []) bs ≡ bs ∷ [])
-    → suc (length bs) ≤ length (cond t [] (b ∷ piece s bs)) → cond t ([] ∷ split s ([] ∷ []) bs) (onto b (split s ([] ∷ []) bs)) ≡ (b ∷ bs) ∷ []
-last_word_by s b bs true more h = absurd (let z : ⊥ = omega arith in z)
-last_word_by s b bs false more h = ap (onto b) (more (omega arith))
+none_at : (s : ℕ) (xs : List ℕ) → length xs ≤ at s xs → split_once s xs ≡ None
+none_at s [] h = refl
+none_at s (b ∷ bs) h = none_at_by s b bs (eqb b s) (at s bs) (λ l. none_at s bs l) h
 
-last_word : (s : ℕ) (ys : List ℕ) → length ys ≤ length (piece s ys) → split s ([] ∷ []) ys ≡ ys ∷ []
-last_word s [] h = refl
-last_word s (b ∷ bs) h = last_word_by s b bs (eqb b s) (last_word s bs) h
+by_position_if : (s : ℕ) (xs : List ℕ) (t : Bool) → t ≡ ltb (at s xs) (length xs)
+    → split_once s xs ≡ option_map (λ n. (take n xs, drop (n + 1) xs)) (cond t (Some (at s xs)) None)
+by_position_if s xs true e = rw add-one (some_at s xs (ltb-true _ _ (sym e)))
+by_position_if s xs false e = none_at s xs (ltb-false _ _ (sym e))
 
-last_line_by : (s b : ℕ) (bs : List ℕ) (t : Bool) → (length bs ≤ length (piece s bs) → onto b (split s [] bs) ≡ (b ∷ bs) ∷ [])
-    → suc (length bs) ≤ length (cond t [] (b ∷ piece s bs)) → cond t ([] ∷ split s [] bs) (onto b (split s [] bs)) ≡ (b ∷ bs) ∷ []
-last_line_by s b bs true more h = absurd (let z : ⊥ = omega arith in z)
-last_line_by s b bs false more h = more (omega arith)
+-- r is what `position` answers
+pub by_position : (s : ℕ) (xs : List ℕ) (r : Option ℕ) → r ≡ cond (ltb (at s xs) (length xs)) (Some (at s xs)) None
+    → option_map (λ n. (take n xs, drop (n + 1) xs)) r ≡ split_once s xs
+by_position s xs r e = rw e (sym (by_position_if s xs (ltb (at s xs) (length xs)) refl))
 
-last_line : (s b : ℕ) (bs : List ℕ) → suc (length bs) ≤ length (piece s (b ∷ bs)) → split s [] (b ∷ bs) ≡ (b ∷ bs) ∷ []
-last_line s b [] h = last_line_by s b [] (eqb b s) (λ l. refl) h
-last_line s b (c ∷ cs) h = last_line_by s b (c ∷ cs) (eqb b s) (λ l. ap (onto b) (last_line s c cs l)) h
+-- Without a separator the bytes are one word, and, where there are some, one line.
 
--- The same, at an index.
+split_none_by : (s : ℕ) (last : List (List ℕ)) (b : ℕ) (bs : List ℕ) (t : Bool) (o : Option (List ℕ × List ℕ))
+    → cond {A = Option (List ℕ × List ℕ)} t (Some ([], bs)) (option_map (λ q. (b ∷ q.0, q.1)) o) ≡ None → (t ≡ false) × (o ≡ None)
+split_none_by s last b bs true o e = cc
+split_none_by s last b bs false None e = (refl, refl)
+split_none_by s last b bs false (Some q) e = cc
 
-module _ (s : ℕ) (xs : List ℕ) (i e : ℕ) (at : e ≡ i + length (piece s (drop i xs))) where
-  pub front : take (e - i) (drop i xs) ≡ piece s (drop i xs)
-  front = let n : e - i ≡ length (piece s (drop i xs)) = omega arith in rw n (take-piece s (drop i xs))
+pub one_word : (s : ℕ) (xs : List ℕ) → split_once s xs ≡ None → split s ([] ∷ []) xs ≡ xs ∷ []
+one_word s [] e = refl
+one_word s (b ∷ bs) e =
+    let no = split_none_by s [] b bs (eqb b s) (split_once s bs) e in
+    rw no.0 (ap (onto b) (one_word s bs no.1))
 
-  pub split_parted : (last : List (List ℕ)) → e < length xs → split s last (drop i xs) ≡ take (e - i) (drop i xs) ∷ split s last (drop (e + 1) xs)
-  split_parted last h =
-      let short : length (piece s (drop i xs)) < length (drop i xs) = omega (arith, length-drop i xs) in
-      let on : i + suc (length (piece s (drop i xs))) ≡ e + 1 = omega arith in
-      let rest : drop (suc (length (piece s (drop i xs)))) (drop i xs) ≡ drop (e + 1) xs = drop-drop _ i xs ∙ ap (λ k. drop k xs) on in
-      rw front (parted s last (drop i xs) short ∙ ap (λ r. piece s (drop i xs) ∷ split s last r) rest)
-
-  whole_front : length xs ≤ e → take (e - i) (drop i xs) ≡ drop i xs
-  whole_front h = take_all _ _ (omega (arith, length-drop i xs))
-
-  long : length xs ≤ e → length (drop i xs) ≤ length (piece s (drop i xs))
-  long h = omega (arith, length-drop i xs)
-
-  pub split_last_word : length xs ≤ e → split s ([] ∷ []) (drop i xs) ≡ take (e - i) (drop i xs) ∷ []
-  split_last_word h = rw (whole_front h) (last_word s (drop i xs) (long h))
-
-  pub split_last_line : i < length xs → length xs ≤ e → split s [] (drop i xs) ≡ take (e - i) (drop i xs) ∷ split s [] (drop e xs)
-  split_last_line l h =
-      let none : drop e xs ≡ [] = drop_all e xs h in
-      let first = drop_more xs i 0 l in
-      let long' : suc (length (drop (i + 1) xs)) ≤ length (piece s (get_or xs i 0 ∷ drop (i + 1) xs)) = subst (λ ys. length ys ≤ length (piece s ys)) first (long h) in
-      let line : split s [] (drop i xs) ≡ drop i xs ∷ [] = subst (λ ys. split s [] ys ≡ ys ∷ []) (sym first) (last_line s (get_or xs i 0) (drop (i + 1) xs) long') in
-      rw (none, whole_front h) line
+pub one_line : (s b : ℕ) (bs : List ℕ) → split_once s (b ∷ bs) ≡ None → split s [] (b ∷ bs) ≡ (b ∷ bs) ∷ []
+one_line s b [] e = let no = split_none_by s [] b [] (eqb b s) None e in rw no.0
+one_line s b (c ∷ cs) e =
+    let no = split_none_by s [] b (c ∷ cs) (eqb b s) (split_once s (c ∷ cs)) e in
+    rw no.0 (ap (onto b) (one_line s c cs no.1))
 
 -- As many words as spaces, and one.
 
-length-onto : (b : ℕ) (ps : List (List ℕ)) → 0 < length ps → length (onto b ps) ≡ length ps
-length-onto b [] h = absurd (let z : ⊥ = omega arith in z)
-length-onto b (p ∷ ps) h = refl
-
-word_count_by : (b : ℕ) (bs : List ℕ) (t : Bool) → length (words bs) ≡ spaces bs + 1
-    → length (cond t ([] ∷ words bs) (onto b (words bs))) ≡ cond t (suc (spaces bs)) (spaces bs) + 1
-word_count_by b bs true h = omega arith
-word_count_by b bs false h = length-onto b (words bs) (omega arith) ∙ h
+words-split : (xs : List ℕ) → words xs ≡ slice_split (λ b. eqb b 32) xs
+words-split [] = refl
+words-split (b ∷ bs) = rw (words-split bs)
 
 pub word_count : (xs : List ℕ) → length (words xs) ≡ spaces xs + 1
-word_count [] = refl
-word_count (b ∷ bs) = word_count_by b bs (eqb b 32) (word_count bs)
-
-pub spaces_more : (xs : List ℕ) (i : ℕ) → i < length xs → get_or xs i 0 ≡ 32 → spaces (drop i xs) ≡ spaces (drop (i + 1) xs) + 1
-spaces_more xs i h q = let e : eqb (get_or xs i 0) 32 ≡ true = eq-eqb _ _ q in at_drop_more spaces xs i 0 h ∙ rw e (omega arith)
-
-pub spaces-same : (xs : List ℕ) (i : ℕ) → i < length xs → (get_or xs i 0 ≡ 32 → ⊥) → spaces (drop i xs) ≡ spaces (drop (i + 1) xs)
-spaces-same xs i h q = let e : eqb (get_or xs i 0) 32 ≡ false = ne_eqb _ _ q in at_drop_more spaces xs i 0 h ∙ rw e
+word_count xs = ap length (words-split xs) ∙ length-slice_split (λ b. eqb b 32) xs

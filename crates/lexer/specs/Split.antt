@@ -1,7 +1,7 @@
 -- Bytes parted at a separator: a sheet into lines, a line into words.
-use Rattle.std.specs.Prelude.{ℕ, suc, cond, List, [], ◌∷◌, drop, Some, None, Option, ◌==◌, slice_index_or}
-use Rattle.lexer.specs.declared.lines.Lines.{Lines}
-use Rattle.lexer.specs.declared.words.Words.{Words}
+use Rattle.std.specs.Prelude.{ℕ, ◌+◌, ◌≤◌, cond, List, [], ◌∷◌, length, drop, map, Some, None, Option, ◌==◌, slice_index_or, ⊤}
+use Rattle.std.specs.List.{count_by}
+use Rattle.std.specs.Option.{option_map}
 
 -- one byte more at the front of the first piece
 abbrev pub onto : ℕ → List (List ℕ) → List (List ℕ)
@@ -25,25 +25,35 @@ words = split 32 ([] ∷ [])
 abbrev pub word_at : List (List ℕ) → ℕ → List ℕ
 word_at ws i = slice_index_or ws i []
 
--- the bytes before the first separator, or all where there is none
-abbrev pub piece : ℕ → List ℕ → List ℕ
-piece s [] = []
-piece s (b ∷ bs) = cond (b == s) [] (b ∷ piece s bs)
+-- the bytes before the first separator and those after it, if there is one
+abbrev pub split_once : ℕ → List ℕ → Option (List ℕ × List ℕ)
+split_once s [] = None
+split_once s (b ∷ bs) = cond (b == s) (Some ([], bs)) (option_map (λ p. (b ∷ p.0, p.1)) (split_once s bs))
 
 -- the first of a list, if there is one, and the others
 abbrev pub uncons : {A : Type 0} → List A → Option A × List A
 uncons [] = (None, [])
 uncons (x ∷ xs) = (Some x, xs)
 
--- what is still to come of the lines of a sheet
-abbrev pub lines_left : Lines → List (List ℕ)
-lines_left l = lines (drop l.at l.sheet.now)
+-- words parted by one space each, with the index of each in the line, where the first starts at `at`
+abbrev pub placed : ℕ → List (List ℕ) → List (ℕ × List ℕ)
+placed at [] = []
+placed at (w ∷ ws) = (at, w) ∷ placed (at + length w + 1) ws
 
--- what is still to come of the words of a line
-abbrev pub words_left : Words → List (List ℕ)
-words_left w = cond w.more (words (drop w.at w.line.now)) []
+-- the words of a line from an index on; none where there is no index
+abbrev pub words_from : List ℕ → Option ℕ → List (ℕ × List ℕ)
+words_from line None = []
+words_from line (Some at) = placed at (words (drop at line))
+
+-- an index that lies in the line or at its end, or none
+abbrev pub IsWithin : List ℕ → Option ℕ → Type 0
+IsWithin line None = ⊤
+IsWithin line (Some at) = at ≤ length line
+
+-- words without their indices
+abbrev pub words_left : List (ℕ × List ℕ) → List (List ℕ)
+words_left = map (λ w. w.1)
 
 -- how many spaces there are
 abbrev pub spaces : List ℕ → ℕ
-spaces [] = 0
-spaces (b ∷ bs) = cond (b == 32) (suc (spaces bs)) (spaces bs)
+spaces = count_by (λ b. b == 32)

@@ -1,7 +1,7 @@
 //! What can be wrong with one line.
 
 /// Why a line is refused.
-#[derive(Clone, Copy)]
+#[derive(Clone, Copy, Debug, PartialEq, Eq)]
 pub enum Fault {
     /// A byte that is neither a space nor a visible character of ASCII.
     BadByte,

@@ -4,7 +4,7 @@
 pub const MOST_LETTERS: usize = 12;
 
 /// A name: its letters, filled up with zeros.
-#[derive(Clone, Copy)]
+#[derive(Clone, Copy, Debug, Default, PartialEq, Eq)]
 pub struct LabelName {
     pub letters: [u8; MOST_LETTERS],
 }

@@ -1,7 +1,7 @@
 //! A line by its kind.
 
 /// What a line is.
-#[derive(Drop)]
+#[derive(Clone, Copy, Debug, PartialEq, Eq)]
 pub enum Line<'a> {
     Blank,
     Comment,

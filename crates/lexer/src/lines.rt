@@ -1,12 +1,21 @@
 //! The lines of a sheet.
-ghost use Rattle.std.specs.Prelude.{◌≤◌, length};
 
 pub mod cursor;
 
-/// A cursor over a sheet: `at` is where the next line begins, if there is one.
+use std::marker::Model;
+
+/// A cursor over a sheet, seen as the lines that are still to come.
 #[derive(Drop)]
 pub struct Lines<'a> {
-    sheet: &'a [u8],
-    at: usize,
-    ghost inside: { at ≤ length sheet.now },
+    rest: &'a [u8],
+}
+
+impl<'a> Model for Lines<'a> {
+    ghost use Rattle.std.specs.Prelude.{ℕ, List};
+
+    ghost Value = { List (List ℕ) };
+
+    ghost use Rattle.lexer.specs.Split.{lines};
+
+    ghost view = { λ l. lines l.rest.now };
 }

@@ -13,8 +13,6 @@ pub fn name(word: &[u8]) -> Option<LabelName>
         return None;
     }
     let mut letters = [0; MOST_LETTERS];
-    for i in 0..word.len() {
-        letters[i] = word[i];
-    }
+    letters[..word.len()].copy_from_slice(word);
     Some(LabelName { letters })
 }

@@ -1,29 +1,19 @@
-//! Where a piece of bytes ends.
-ghost use Rattle.std.specs.Prelude.{◌≡◌, ◌+◌, ◌≤◌, length, drop};
-ghost use Rattle.lexer.specs.Split.{piece, spaces};
+//! Bytes parted at a separator.
+ghost use Rattle.std.specs.Prelude.{◌≡◌};
+ghost use Rattle.std.specs.Option.{option_map};
+ghost use Rattle.lexer.specs.Split.{spaces, split_once as splits_once};
 
-/// The index of the first separator from `at` on, or the length where there is none.
-pub(crate) fn piece_end(bytes: &[u8], at: usize, separator: u8) -> usize
-    requires { at ≤ length bytes.now }
-    ensures place { result ≡ at + length (piece separator (drop at bytes.now)) }
-    ensures within { result ≤ length bytes.now }
+/// The bytes before the first separator and those after it, if there is one.
+pub(crate) fn split_once(bytes: &[u8], separator: u8) -> Option<(&[u8], &[u8])>
+    ensures { option_map (λ p. (p.0.now, p.1.now)) result ≡ splits_once separator bytes.now }
 {
-    let mut end = at;
-    while end < bytes.len() && bytes[end] != separator {
-        end += 1;
-    }
-    end
+    let end = bytes.iter().position(|b| *b == separator)?;
+    Some((&bytes[..end], &bytes[end + 1..]))
 }
 
 /// How many spaces there are.
 pub fn space_count(line: &[u8]) -> usize
     ensures { result ≡ spaces line.now }
 {
-    let mut count = 0;
-    for b in line {
-        if *b == b' ' {
-            count += 1;
-        }
-    }
-    count
+    line.iter().filter(|b| **b == b' ').count()
 }

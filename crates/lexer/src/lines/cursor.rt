@@ -1,29 +1,27 @@
 //! Going from line to line.
 ghost use Rattle.std.specs.Prelude.{◌≡◌};
-ghost use Rattle.lexer.specs.Split.{lines, lines_left, uncons};
+ghost use Rattle.lexer.specs.Split.{lines, uncons};
 ghost use Rattle.std.specs.Option.{option_map};
 
 use crate::lines::Lines;
-use crate::split::piece_end;
+use crate::split::split_once;
 
 impl<'a> Lines<'a> {
     pub fn new(sheet: &'a [u8]) -> Self
-        ensures { lines_left result ≡ lines sheet.now }
+        ensures { result ≡ lines sheet.now }
     {
-        Lines { sheet, at: 0 }
+        Lines { rest: sheet }
     }
 
     /// The next line, without the byte that ends it.
     pub fn next_line(&mut self) -> Option<&'a [u8]>
-        ensures { (option_map (λ x. x.now) result, lines_left self.new) ≡ uncons (lines_left self.old) }
+        ensures { (option_map (λ x. x.now) result, self.new) ≡ uncons self.old }
     {
-        let sheet = self.sheet;
-        let start = self.at;
-        if start >= sheet.len() {
+        if self.rest.is_empty() {
             return None;
         }
-        let end = piece_end(sheet, start, b'\n');
-        self.at = if end < sheet.len() { end + 1 } else { end };
-        Some(&sheet[start..end])
+        let (line, rest) = split_once(self.rest, b'\n').unwrap_or((self.rest, &[]));
+        self.rest = rest;
+        Some(line)
     }
 }

@@ -1,14 +1,18 @@
-use Rattle.std.proofs.Common.{refl, inl, inr}
-use Rattle.lexer.proofs.Cursors.{Next, next_word}
+use Rattle.std.proofs.Common.{sym, ◌∙◌}
+use Rattle.lexer.proofs.Cursors.{next_start, next_word, last_word}
 use Rattle.lexer.proofs.words.Words.next_word.Goals as goal
-use Rattle.lexer.proofs.words.Words.next_word.Goals.{then-end-line, else-end-line}
+
+pub returns-in_default : goal.returns-in_default
+returns-in_default c =
+    let some = sym c.take.ensures.value ∙ c.in_ok-start.was in
+    rw (← c.self.view_is, c.take.ensures.after) (last_word c.self.inside.line.now _ _ some c.self.invariant c.in_default.ensures)
+
+pub invariant_of-self-2 : goal.invariant_of-self-2
+invariant_of-self-2 c =
+    let some = sym c.take.ensures.value ∙ c.in_ok-start.was in
+    next_start c.self.inside.line.now _ _ some c.self.invariant _ _ c.in-Some.ensures
 
 pub returns : goal.returns
 returns c =
-    let xs = c.args.self.now.line.now in
-    let next : Next xs c.piece_end-end.result c.if-end-line.self =
-    elim c.if-end-line.branch [ then-end-line w ↦ inl (w.if-end-line.true, w.self-is) | else-end-line w ↦ inr (w.if-end-line.false, w.self-is) ] in
-    record {
-      word = rw c.if-not-self.false (next_word xs c.args.self.now.at c.piece_end-end.result c.if-end-line.self c.piece_end-end.ensures.place next);
-      start = refl;
-    }
+    let some = sym c.take.ensures.value ∙ c.in_ok-start.was in
+    rw (← c.self.view_is) (next_word c.self.inside.line.now _ _ some c.self.invariant _ _ c.in-Some.ensures)
