@@ -1,6 +1,7 @@
 -- Every code that a sheet is read as fits: its operands are in range, and its labels stand within it.
 use Rattle.std.proofs.Common.{◌≡◌, ℕ, ◌+◌, ◌<◌, ◌≤◌, Bool, true, ◌&&◌, eqb, ltb, leb, List, [], ◌∷◌, ◌++◌, length, IfSome, Some, None, Ok, Err, Option, Result, refl, subst, arith}
-use Rattle.std.specs.List.{AllByRecursion}
+use Rattle.std.specs.List.{AllByRecursion, find}
+use Rattle.std.specs.Option.{option_map}
 use Rattle.std.proofs.ByRecursion.{All-push, All-weaker}
 use Rattle.std.proofs.lemmas.List.{length_push}
 use Rattle.std.proofs.lemmas.Bool.{lt-ltb, ltb-true, le-leb, and_from, and_parts, cond_both}
@@ -161,7 +162,7 @@ assembled_well a w n (l ∷ ls) = refused_well n (line_taken a n l) _ (line_well
 target_placed : (n : ℕ) (ls : List Label) (name : LabelName) → AllByRecursion (Placed n) ls → IfSome (target ls name) (λ a. a.0 ≤ n)
 target_placed n [] name h = tt
 target_placed n (l ∷ ls) name h =
-    cond_both (same l.name.letters name.letters) (Some l.address) (target ls name) (λ o. IfSome o (λ a. a.0 ≤ n))
+    cond_both (same l.name.letters name.letters) (Some l) (find (λ k. same k.name.letters name.letters) ls) (λ o. IfSome (option_map (λ k. k.address) o) (λ a. a.0 ≤ n))
     (λ _. h.0) (λ _. target_placed n ls name h.1)
 
 aimed-fits : (n : ℕ) (i : Instruction) (a : Address) → fits n i ≡ true → a.0 ≤ n → fits n (aimed i a) ≡ true
