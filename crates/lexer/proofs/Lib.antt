@@ -1,5 +1,2 @@
 pub mod Pieces
-pub mod Ranges
-pub mod Digits
-pub mod Colon
 pub mod Cursors

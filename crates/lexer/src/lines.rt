@@ -1,10 +1,13 @@
 //! The lines of a sheet.
+ghost use Rattle.std.specs.Prelude.{◌≡◌};
+ghost use Rattle.std.specs.Iterator.{YieldsFirstRef, item_count};
+ghost use Rattle.std.specs.Option.{option_map};
+ghost use Rattle.lexer.specs.Split.{lines, uncons};
 
-pub mod cursor;
-
+use crate::split::split_once;
 use std::marker::Model;
 
-/// A cursor over a sheet, seen as the lines that are still to come.
+/// An iterator over the lines of a sheet, seen as those that are still to come.
 #[derive(Drop)]
 pub struct Lines<'a> {
     rest: &'a [u8],
@@ -12,10 +15,41 @@ pub struct Lines<'a> {
 
 impl<'a> Model for Lines<'a> {
     ghost use Rattle.std.specs.Prelude.{ℕ, List};
+    ghost use Rattle.lexer.specs.Split.{lines};
 
     ghost Value = { List (List ℕ) };
 
-    ghost use Rattle.lexer.specs.Split.{lines};
-
     ghost view = { λ l. lines l.rest.now };
+}
+
+impl<'a> Lines<'a> {
+    pub fn new(sheet: &'a [u8]) -> Self
+        ensures { result ≡ lines sheet.now }
+    {
+        Lines { rest: sheet }
+    }
+
+    /// The next line, without the byte that ends it.
+    pub fn next_line(&mut self) -> Option<&'a [u8]>
+        ensures { (option_map (λ x. x.now) result, self.new) ≡ uncons self.old }
+    {
+        self.next()
+    }
+}
+
+impl<'a> Iterator for Lines<'a> {
+    type Item = &'a [u8];
+
+    ghost next_gives = { YieldsFirstRef (λ left. left) };
+
+    ghost remaining = { item_count (λ left. left) };
+
+    fn next(&mut self) -> Option<&'a [u8]> {
+        if self.rest.is_empty() {
+            return None;
+        }
+        let (line, rest) = split_once(self.rest, b'\n').unwrap_or((self.rest, &[]));
+        self.rest = rest;
+        Some(line)
+    }
 }

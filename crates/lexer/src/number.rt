@@ -8,11 +8,6 @@ use crate::fault::Fault;
 /// How many digits a number may have.
 const MOST_DIGITS: usize = 10;
 
-/// The largest number that a signed word holds, and how far it reaches below 0.
-const MOST_POSITIVE: u64 = 2147483647;
-
-const MOST_NEGATIVE: u64 = 2147483648;
-
 /// One digit, or several of which the first is not 0.
 fn is_well_formed(digits: &[u8]) -> bool
     ensures { result ≡ well_formed digits.now }
@@ -25,8 +20,9 @@ fn is_well_formed(digits: &[u8]) -> bool
 }
 
 fn value(digits: &[u8]) -> u64
-    requires { (all_digits digits.now ≡ true) × (length digits.now ≤ 10) }
-    ensures { (result ≡ value_after 0 digits.now) × (result < 10 ^ 10) }
+    requires digits { all_digits digits.now ≡ true }
+    requires few { length digits.now ≤ 10 }
+    ensures { result ≡ value_after 0 digits.now }
 {
     let mut n = 0u64;
     for b in digits {
@@ -52,23 +48,12 @@ pub fn magnitude(digits: &[u8]) -> Result<u64, Fault>
 pub fn number(word: &[u8]) -> Result<i32, Fault>
     ensures { result ≡ numbers word.now }
 {
-    match word {
-        [b'-', digits @ ..] => {
-            let m = magnitude(digits)?;
-            if m == 0 {
-                return Err(Fault::BadOperand);
-            }
-            if m > MOST_NEGATIVE {
-                return Err(Fault::NumberOutOfRange);
-            }
-            Ok(-(m as i64) as i32)
-        }
-        _ => {
-            let m = magnitude(word)?;
-            if m > MOST_POSITIVE {
-                return Err(Fault::NumberOutOfRange);
-            }
-            Ok(m as i32)
-        }
-    }
+    let signed = match word {
+        [b'-', digits @ ..] => match magnitude(digits)? {
+            0 => return Err(Fault::BadOperand),
+            m => -i128::from(m),
+        },
+        _ => i128::from(magnitude(word)?),
+    };
+    i32::try_from(signed).map_err(|_| Fault::NumberOutOfRange)
 }
