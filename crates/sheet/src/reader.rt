@@ -19,13 +19,10 @@ fn assemble(sheet: &[u8]) -> Result<Assembly, SheetRefusal>
     ensures { result ≡ assembled empty 1 (lines sheet.now) }
 {
     let mut assembly = Assembly::new();
-    let mut lines = Lines::new(sheet);
-    let mut number = 1;
-    while let Some(line) = lines.next_line() {
+    for (number, line) in (1..).zip(Lines::new(sheet)) {
         assembly
             .take_line(number, line)
             .map_err(|fault| SheetRefusal::at_line(fault, number))?;
-        number += 1;
     }
     Ok(assembly)
 }
