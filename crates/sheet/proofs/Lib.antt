@@ -1,4 +1,4 @@
 pub mod Parts
-pub mod Passes
+pub mod Checked
 pub mod Fitting
 pub mod FewLines
