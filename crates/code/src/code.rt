@@ -15,7 +15,7 @@ pub const CAPACITY: usize = 256;
 
 /// At most 256 instructions, each of which fits: its registers and globals are there, and its addresses are at most
 /// the code's length.
-#[derive(Drop)]
+#[derive(Debug, Drop)]
 pub struct Code {
     instructions: ArrayVec<Instruction, CAPACITY>,
 }

@@ -63,17 +63,6 @@ impl Decoder {
         Ok(())
     }
 
-    fn count(&mut self, so_far: usize, b: u8) {
-        if b == b'*' {
-            self.part.clear();
-            self.times = Some(so_far);
-            self.state = State::Text;
-        } else {
-            let digit = usize::from(hex_digit(b));
-            self.state = State::Count(so_far.saturating_mul(10).saturating_add(digit));
-        }
-    }
-
     /// Takes in one byte of the written form.
     fn take(&mut self, b: u8) -> Result<(), AllocError> {
         match (self.state, b) {
@@ -86,7 +75,15 @@ impl Decoder {
             (State::Escape, _) => self.put(b)?,
             (State::HighDigit, _) => self.state = State::LowDigit(hex_digit(b)),
             (State::LowDigit(high), _) => self.put((high << 4) | hex_digit(b))?,
-            (State::Count(so_far), _) => self.count(so_far, b),
+            (State::Count(so_far), b'*') => {
+                self.part.clear();
+                self.times = Some(so_far);
+                self.state = State::Text;
+            }
+            (State::Count(so_far), _) => {
+                let digit = usize::from(hex_digit(b));
+                self.state = State::Count(so_far.saturating_mul(10).saturating_add(digit));
+            }
         }
         Ok(())
     }

@@ -22,7 +22,7 @@ use std::marker::Model;
 pub const MOST_LABELS: usize = 64;
 
 /// The labels and the instructions of the lines so far.
-#[derive(Drop)]
+#[derive(Debug, Drop)]
 pub struct Assembly {
     labels: ArrayVec<Label, MOST_LABELS>,
     drafts: ArrayVec<Draft, CAPACITY>,
