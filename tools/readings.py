@@ -424,10 +424,16 @@ def answer(sheet):
     return told.stdout.decode().strip()
 
 
-def as_numbers(told):
-    """(number, line), or (0, instructions) for an accepted sheet."""
+def as_result(told):
+    """The answer as Rust writes it: Ok(instructions), or Err((number, line))."""
     words = told.split()
-    return (0, int(words[1])) if words[0] == "ok" else (int(words[1]), int(words[3]))
+    return f"Ok({words[1]})" if words[0] == "ok" else f"Err(({words[1]}, {words[3]}))"
+
+
+def refusal_number(told):
+    """The refusal's number, 0 for an accepted sheet."""
+    words = told.split()
+    return 0 if words[0] == "ok" else int(words[1])
 
 
 def answered():
@@ -441,7 +447,7 @@ def answered():
                 raise SystemExit(f"the same sheet twice: {number} {name!r} and {seen[sheet]!r}")
             seen[sheet] = name
             told = answer(sheet)
-            if as_numbers(told)[0] != number:
+            if refusal_number(told) != number:
                 raise SystemExit(f"{number} {name!r}: the answer is {told!r}")
             made.append((number, name, expression, told))
     return made
@@ -459,10 +465,10 @@ def cases_text(rows):
     short = [row for row in rows if not is_long(row[2])]
     chosen = [short[i * len(short) // TESTED] for i in range(TESTED)]
     made = "//! Sheets with the answers of the independent evaluator; written by tools/readings.py, not by hand.\n\n"
-    made += "/// A sheet, and its refusal's number and line, or 0 and the number of instructions.\n"
-    made += "pub const CASES: [(&[u8], u32, u32); %d] = [\n" % TESTED
+    made += "/// A sheet, and its number of instructions, or its refusal's number and line.\n"
+    made += "pub const CASES: [(&[u8], Result<usize, (u32, u32)>); %d] = [\n" % TESTED
     for _, _, expression, told in chosen:
-        made += '    (b"%s", %d, %d),\n' % (escaped(expanded(expression)), *as_numbers(told))
+        made += '    (b"%s", %s),\n' % (escaped(expanded(expression)), as_result(told))
     return made + "];\n"
 
 

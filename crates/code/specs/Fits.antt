@@ -1,5 +1,6 @@
 -- When instructions may stand in a code of a given length.
-use Rattle.std.specs.Prelude.{ℕ, Bool, true, ◌&&◌, List, [], ◌∷◌, nat_le, nat_lt}
+use Rattle.std.specs.Prelude.{ℕ, Bool, true, ◌&&◌, List, nat_le, nat_lt}
+use Rattle.std.specs.List.{list_all}
 use Rattle.cell.specs.declared.address.Address.{Address}
 use Rattle.code.specs.declared.register.Register.{Register}
 use Rattle.code.specs.declared.global.Global.{Global}
@@ -43,5 +44,4 @@ fits n Stop = true
 
 -- all of these fit
 abbrev pub all_fit : ℕ → List Instruction → Bool
-all_fit n [] = true
-all_fit n (i ∷ is) = fits n i && all_fit n is
+all_fit n = list_all (fits n)

@@ -1,20 +1,73 @@
 //! Code.
-ghost use Rattle.std.specs.Prelude.{◌≡◌, true, length};
-ghost use Rattle.bounded.specs.Listed.{listed};
-ghost use Rattle.code.specs.Fits.{all_fit as each_fit};
+ghost use Rattle.std.specs.Prelude.{◌≡◌, ◌≤◌, true, [], length, IfSome};
+ghost use Rattle.std.specs.List.{slice_get};
+ghost use Rattle.code.specs.Fits.{fits, all_fit as each_fit};
+ghost use Rattle.code.specs.Listing.{accepted};
 
+use crate::fits::all_fit;
 use crate::instruction::Instruction;
-use bounded::bounded::Bounded;
-
-pub mod methods;
+use arrayvec::ArrayVec;
+use cell::address::Address;
+use std::marker::Model;
 
 /// How many instructions a code may have.
 pub const CAPACITY: usize = 256;
 
 /// At most 256 instructions, each of which fits: its registers and globals are there, and its addresses are at most
 /// the code's length.
-#[derive(Drop)]
+#[derive(Debug, Drop)]
 pub struct Code {
-    instructions: Bounded<Instruction, CAPACITY>,
-    ghost all_fit: { each_fit (length (listed instructions)) (listed instructions) ≡ true },
+    instructions: ArrayVec<Instruction, CAPACITY>,
+}
+
+impl Model for Code {
+    ghost use Rattle.std.specs.Prelude.{◌≡◌, true, List, length};
+    ghost use Rattle.code.specs.declared.instruction.Instruction.{Instruction};
+    ghost use Rattle.code.specs.Fits.{all_fit as each_fit};
+
+    ghost Value = { List Instruction };
+
+    ghost view = { λ c. c.instructions.items };
+
+    ghost invariant = { λ c. each_fit (length c.instructions.items) c.instructions.items ≡ true };
+}
+
+impl Code {
+    /// Code of no instruction.
+    pub fn empty() -> Self
+        ensures { result ≡ [] }
+    {
+        Code {
+            instructions: ArrayVec::new(),
+        }
+    }
+
+    /// The code of these instructions, if they are not too many and each fits.
+    pub fn new(instructions: &[Instruction]) -> Option<Self>
+        ensures { result ≡ accepted instructions.now }
+    {
+        let instructions = ArrayVec::try_from(instructions).ok()?;
+        if all_fit(&instructions) {
+            Some(Code { instructions })
+        } else {
+            None
+        }
+    }
+
+    /// How many instructions there are.
+    pub fn len(&self) -> usize
+        ensures value { result ≡ length self.now }
+        ensures within { result ≤ CAPACITY }
+        ensures fit { each_fit (length self.now) self.now ≡ true }
+    {
+        self.instructions.len()
+    }
+
+    /// The instruction at an address, if there is one.
+    pub fn fetch(&self, at: Address) -> Option<Instruction>
+        ensures value { result ≡ slice_get self.now at.0 }
+        ensures fit { IfSome result (λ i. fits (length self.now) i ≡ true) }
+    {
+        self.instructions.get(at.0 as usize).copied()
+    }
 }

@@ -1,34 +1,16 @@
 //! Whether an instruction fits a code.
 ghost use Rattle.std.specs.Prelude.{◌≡◌, length};
-ghost use Rattle.code.specs.Fits.{fits as fitting, all_fit, is_register, is_global, reaches as reaching};
+ghost use Rattle.code.specs.Fits.{fits as fitting, all_fit, reaches as reaching};
 
 use crate::global::Global;
 use crate::instruction::Instruction;
 use crate::register::Register;
 use cell::address::Address;
 
-/// How many registers a run has.
-pub const REGISTERS: u8 = 8;
-
-/// How many globals a run has.
-pub const GLOBALS: u8 = 32;
-
-fn known(register: Register) -> bool
-    ensures { result ≡ is_register register }
-{
-    register.0 < REGISTERS
-}
-
-fn known_global(global: Global) -> bool
-    ensures { result ≡ is_global global }
-{
-    global.0 < GLOBALS
-}
-
 fn all_known(a: Register, b: Register, c: Register) -> bool
     ensures { result ≡ fitting 0 (Instruction.Add a b c) }
 {
-    known(a) && known(b) && known(c)
+    a.is_known() && b.is_known() && c.is_known()
 }
 
 fn reaches(len: usize, target: Address) -> bool
@@ -50,12 +32,12 @@ pub fn fits(len: usize, instruction: Instruction) -> bool
         | Instruction::Tail(r)
         | Instruction::CallCc(r)
         | Instruction::CallOnce(r)
-        | Instruction::Forget(r) => known(r),
+        | Instruction::Forget(r) => r.is_known(),
         Instruction::Proc(r, target) | Instruction::Zero(r, target) => {
-            known(r) && reaches(len, target)
+            r.is_known() && reaches(len, target)
         }
-        Instruction::Load(r, global) => known(r) && known_global(global),
-        Instruction::Store(global, r) => known_global(global) && known(r),
+        Instruction::Load(r, global) => r.is_known() && global.is_known(),
+        Instruction::Store(global, r) => global.is_known() && r.is_known(),
         Instruction::Add(a, b, c)
         | Instruction::Sub(a, b, c)
         | Instruction::Less(a, b, c)
@@ -69,10 +51,6 @@ pub fn fits(len: usize, instruction: Instruction) -> bool
 pub fn all_fit(instructions: &[Instruction]) -> bool
     ensures { result ≡ all_fit (length instructions.now) instructions.now }
 {
-    for instruction in instructions {
-        if !fits(instructions.len(), *instruction) {
-            return false;
-        }
-    }
-    true
+    let len = instructions.len();
+    instructions.iter().all(|&i| fits(len, i))
 }

@@ -5,7 +5,7 @@ use crate::register::Register;
 use cell::address::Address;
 
 /// One instruction, with its operands in the order in which a sheet has them.
-#[derive(Clone, Copy)]
+#[derive(Clone, Copy, Default, PartialEq, Eq, Debug)]
 pub enum Instruction {
     /// `set`
     Set(Register, i32),
@@ -46,5 +46,6 @@ pub enum Instruction {
     /// `ret`
     Return,
     /// `stop`
+    #[default]
     Stop,
 }

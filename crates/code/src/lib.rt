@@ -1,5 +1,5 @@
 //! The code that a rule sheet is read into: instructions with typed operands, and the list of them.
-//! It rests on `cell`, for addresses, and on `bounded`.
+//! It rests on `cell`, for addresses, and on `arrayvec`.
 #![tactic(auto)]
 
 pub mod code;

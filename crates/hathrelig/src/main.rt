@@ -4,35 +4,24 @@
 
 use code::code::Code;
 use sheet::reader::{MOST_BYTES, read};
-use sheet::refusal::SheetRefusal;
+use std::alloc::Global;
 use std::io;
 use std::io::Read;
 
 /// How much of the input is read: a byte more than a sheet may have, so that one too long is seen.
-const MOST_INPUT: usize = MOST_BYTES + 1;
+const MOST_INPUT: u64 = MOST_BYTES as u64 + 1;
 
-fn print_refusal(rt: &HostRuntime, outcome: Result<(), SheetRefusal>) -> io::Result<()> {
-    if let Err(refusal) = outcome {
-        let number = refusal.number();
-        let line = refusal.line();
-        println!(rt; "sheet {number} line {line}")?;
-    }
-    Ok(())
-}
-
-fn answer(rt: &HostRuntime) -> io::Result<()> {
-    let mut bytes = Vec::new(rt.alloc());
-    rt.stdin().take(MOST_INPUT as u64).read_to_end(&mut bytes)?;
+fn answer(rt: &impl Print, input: impl Read + Drop, alloc: Global) -> io::Result<()> {
+    let mut bytes = Vec::new(alloc);
+    input.take(MOST_INPUT).read_to_end(&mut bytes)?;
     let mut table = Code::empty();
-    let outcome = read(&mut table, bytes.as_slice());
-    let Ok(()) = outcome else {
-        return print_refusal(rt, outcome);
-    };
-    let count = table.len();
-    println!(rt; "instructions {count}")
+    match read(&mut table, &bytes) {
+        Ok(()) => println!(rt; "instructions {}", table.len()),
+        Err(refusal) => println!(rt; "{refusal}"),
+    }
 }
 
 fn main(rt: HostRuntime) -> anyhow::Result<()> {
-    answer(&rt)?;
+    answer(&rt, rt.stdin(), rt.alloc())?;
     Ok(())
 }

@@ -6,7 +6,7 @@
 use std::alloc::{AllocError, Global};
 
 /// What the next byte belongs to.
-#[derive(Clone, Copy)]
+#[derive(Clone, Copy, PartialEq, Eq, Debug)]
 enum State {
     Text,
     Escape,
@@ -17,33 +17,34 @@ enum State {
 
 /// A sheet that is being put together; `part` collects a text that is to be repeated.
 #[derive(Drop)]
-pub struct Decoder {
+struct Decoder {
     sheet: Vec<u8>,
     part: Vec<u8>,
     times: Option<usize>,
     state: State,
 }
 
-fn hex_digit(b: u8) -> u8 {
-    match b {
-        b'0'..=b'9' => b - b'0',
-        b'a'..=b'f' => b - b'a' + 10,
-        _ => 0,
+/// The sheet that a line stands for.
+pub fn decoded(alloc: Global, line: &str) -> Result<Vec<u8>, AllocError> {
+    let mut decoder = Decoder::new(alloc);
+    for b in line.bytes() {
+        decoder.take(b)?;
     }
+    Ok(decoder.sheet)
+}
+
+fn hex_digit(b: u8) -> u8 {
+    char::from(b).to_digit(16).unwrap_or(0) as u8
 }
 
 impl Decoder {
-    pub fn new(heap: Global) -> Self {
+    fn new(alloc: Global) -> Self {
         Decoder {
-            sheet: Vec::new(heap),
-            part: Vec::new(heap),
+            sheet: Vec::new(alloc),
+            part: Vec::new(alloc),
             times: None,
             state: State::Text,
         }
-    }
-
-    pub fn sheet(&self) -> &[u8] {
-        self.sheet.as_slice()
     }
 
     fn put(&mut self, b: u8) -> Result<(), AllocError> {
@@ -56,29 +57,14 @@ impl Decoder {
     }
 
     fn repeat(&mut self) -> Result<(), AllocError> {
-        for _ in 0..self.times.unwrap_or(0) {
-            self.sheet.extend_from_slice(self.part.as_slice())?;
+        for _ in 0..self.times.take().unwrap_or(0) {
+            self.sheet.extend_from_slice(&self.part)?;
         }
-        self.times = None;
         Ok(())
     }
 
-    fn count(&mut self, so_far: usize, b: u8) {
-        match b {
-            b'*' => {
-                self.part.clear();
-                self.times = Some(so_far);
-                self.state = State::Text;
-            }
-            _ => {
-                let digit = usize::from(hex_digit(b));
-                self.state = State::Count(so_far.saturating_mul(10).saturating_add(digit));
-            }
-        }
-    }
-
     /// Takes in one byte of the written form.
-    pub fn take(&mut self, b: u8) -> Result<(), AllocError> {
+    fn take(&mut self, b: u8) -> Result<(), AllocError> {
         match (self.state, b) {
             (State::Text, b'\\') => self.state = State::Escape,
             (State::Text, b'{') => self.state = State::Count(0),
@@ -88,8 +74,16 @@ impl Decoder {
             (State::Escape, b'x') => self.state = State::HighDigit,
             (State::Escape, _) => self.put(b)?,
             (State::HighDigit, _) => self.state = State::LowDigit(hex_digit(b)),
-            (State::LowDigit(high), _) => self.put((high & 15) * 16 + (hex_digit(b) & 15))?,
-            (State::Count(so_far), _) => self.count(so_far, b),
+            (State::LowDigit(high), _) => self.put((high << 4) | hex_digit(b))?,
+            (State::Count(so_far), b'*') => {
+                self.part.clear();
+                self.times = Some(so_far);
+                self.state = State::Text;
+            }
+            (State::Count(so_far), _) => {
+                let digit = usize::from(hex_digit(b));
+                self.state = State::Count(so_far.saturating_mul(10).saturating_add(digit));
+            }
         }
         Ok(())
     }

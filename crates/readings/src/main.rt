@@ -2,47 +2,35 @@
 //! It rests on `sheet` and `code`.
 #![tactic(auto)]
 
-use crate::decode::Decoder;
+use crate::decode::decoded;
 use code::code::Code;
 use sheet::reader::read;
-use std::fs;
+use std::fs::Files;
+use std::{fs, io};
 
 mod decode;
 
 const TABLE: &str = "sheets.txt";
 
-fn print_answer(rt: &HostRuntime, sheet: &[u8]) -> anyhow::Result<()> {
+fn print_answer(rt: &impl Print, sheet: &[u8]) -> io::Result<()> {
     let mut table = Code::empty();
     match read(&mut table, sheet) {
-        Ok(()) => {
-            let count = table.len();
-            println!(rt; "ok {count}")?;
-        }
-        Err(refusal) => {
-            let number = refusal.number();
-            let line = refusal.line();
-            println!(rt; "sheet {number} line {line}")?;
-        }
+        Ok(()) => println!(rt; "ok {}", table.len()),
+        Err(refusal) => println!(rt; "{refusal}"),
     }
-    Ok(())
 }
 
-fn answer_all(rt: &HostRuntime) -> anyhow::Result<()> {
-    let written = fs::read(rt, TABLE)?;
-    let mut decoder = Decoder::new(rt.alloc());
-    for b in written.as_slice() {
-        if *b == b'\n' {
-            print_answer(rt, decoder.sheet())?;
-            decoder = Decoder::new(rt.alloc());
-        } else {
-            decoder.take(*b)?;
-        }
+fn answer_all(rt: &(impl Files + Print + AllocGlobal)) -> io::Result<()> {
+    let written = fs::read_to_string(rt, TABLE)?;
+    for line in written.lines() {
+        print_answer(rt, &decoded(rt.alloc(), line)?)?;
     }
     Ok(())
 }
 
 fn main(rt: HostRuntime) -> anyhow::Result<()> {
-    answer_all(&rt)
+    answer_all(&rt)?;
+    Ok(())
 }
 
 #[cfg(test)]
@@ -54,19 +42,19 @@ mod tests {
     use code::code::Code;
     use sheet::reader::read;
 
-    // A refusal's number and line, or 0 and the number of instructions.
-    fn answer(sheet: &[u8]) -> (u32, u32) {
+    // The number of instructions, or the refusal's number and line.
+    fn answer(sheet: &[u8]) -> Result<usize, (u32, u32)> {
         let mut table = Code::empty();
         match read(&mut table, sheet) {
-            Ok(()) => (0, table.len() as u32),
-            Err(refusal) => (refusal.number(), refusal.line()),
+            Ok(()) => Ok(table.len()),
+            Err(refusal) => Err((refusal.number(), refusal.line())),
         }
     }
 
     #[test]
     fn reads_as_the_evaluator(rt: HostRuntime) {
-        for (sheet, number, line) in CASES {
-            assert_eq!(rt; answer(sheet), (number, line));
+        for (sheet, told) in CASES {
+            assert_eq!(rt; answer(sheet), told);
         }
     }
 }

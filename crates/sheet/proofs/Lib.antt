@@ -1,6 +1,4 @@
-pub mod Lookups
-pub mod Lettered
 pub mod Parts
-pub mod Passes
+pub mod Checked
 pub mod Fitting
-pub mod Assembling
+pub mod FewLines

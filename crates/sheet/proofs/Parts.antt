@@ -1,10 +1,10 @@
 -- An instruction line by its words.
 use Rattle.std.proofs.Common.{◌≡◌, ℕ, ◌+◌, List, length, drop, Some, Err, Option, sym, ap, ◌∙◌}
-use Rattle.std.proofs.lemmas.List.{get_or-drop, drop-drop}
+use Rattle.std.proofs.lemmas.List.{get_or-drop, drop-drop, drop-map}
 use Rattle.std.proofs.lemmas.Bool.{eq-eqb, ne_eqb, cond-true, cond-false}
 use Rattle.lexer.specs.declared.fault.Fault.TheVariants.{BadOperand}
 use Rattle.sheet.specs.declared.mnemonic.Mnemonic.{Mnemonic}
-use Rattle.lexer.specs.Split.{word_at}
+use Rattle.lexer.specs.Split.{word_at, words_left}
 use Rattle.sheet.specs.Operands.{by_word, with_operands}
 use Rattle.sheet.specs.Words.{arity}
 
@@ -20,5 +20,7 @@ module _ (o : Option Mnemonic) (m : Mnemonic) (ws : List (List ℕ)) (known : o 
       ∙ ap (λ w. with_operands m a b w) (sym z)
 
 -- the next word of what is left after some words
-pub word_after : (ws vs us : List (List ℕ)) (k : ℕ) → vs ≡ drop k ws → us ≡ drop 1 vs → (us ≡ drop (k + 1) ws) × (word_at vs 0 ≡ word_at ws (k + 0))
-word_after ws vs us k e f = (f ∙ ap (drop 1) e ∙ drop-drop 1 k ws, ap (λ l. word_at l 0) e ∙ get_or-drop k ws 0 _)
+pub word_after : (ws : List (List ℕ)) (vs us : List (ℕ × List ℕ)) (k : ℕ) → words_left vs ≡ drop k ws → us ≡ drop 1 vs
+    → (words_left us ≡ drop (k + 1) ws) × (word_at (words_left vs) 0 ≡ word_at ws (k + 0))
+word_after ws vs us k e f =
+    (ap words_left f ∙ sym (drop-map (λ w. w.1) 1 vs) ∙ ap (drop 1) e ∙ drop-drop 1 k ws, ap (λ l. word_at l 0) e ∙ get_or-drop k ws 0 _)

@@ -1,8 +1,8 @@
 -- Lines taken in order: the labels and the instructions so far.
 use Rattle.std.specs.Prelude.{ℕ, cond, not, ◌&&◌, List, [], ◌∷◌, ◌++◌, length, is_some, Some, None, Ok, Err, Option, Result, nat_lt}
-use Rattle.bounded.specs.Listed.{listed}
+use Rattle.std.specs.List.{find}
+use Rattle.std.specs.Option.{option_map}
 use Rattle.cell.specs.declared.address.Address.{Address}
-use Rattle.sheet.specs.declared.assembly.Assembly.{Assembly as Table}
 use Rattle.sheet.specs.declared.draft.Draft.{Draft}
 use Rattle.lexer.specs.declared.fault.Fault.{Fault}
 use Rattle.lexer.specs.declared.fault.Fault.TheVariants.{BadByte, BadLabel, TooManyInstructions}
@@ -24,14 +24,9 @@ pub record Assembly : Type 0 where
 abbrev pub empty : Assembly
 empty = record { labels = []; drafts = [] }
 
--- what the reader's own tables stand for
-abbrev pub assembly_of : Table → Assembly
-assembly_of t = record { labels = listed t.labels; drafts = listed t.drafts }
-
 -- where a label is, if it is defined
 abbrev pub target : List Label → LabelName → Option Address
-target [] n = None
-target (l ∷ ls) n = cond (same l.name.letters n.letters) (Some l.address) (target ls n)
+target ls n = option_map (λ l. l.address) (find (λ l. same l.name.letters n.letters) ls)
 
 -- A label marks the place of the next instruction. It has a well-formed name that is new, and there are at most 64.
 abbrev pub defined : Assembly → Option LabelName → Result Assembly Fault

@@ -1,5 +1,5 @@
 -- Reading a sheet: from its bytes to the code, or to the first refusal.
-use Rattle.std.specs.Prelude.{ℕ, ◌+◌, cond, List, [], ◌∷◌, ◌++◌, length, Some, None, Ok, Err, Option, Result, nat_le}
+use Rattle.std.specs.Prelude.{ℕ, ◌+◌, cond, List, [], ◌∷◌, ◌++◌, length, Some, None, Ok, Err, Option, Result, codes, decimal, nat_le}
 use Rattle.cell.specs.declared.address.Address.{Address}
 use Rattle.code.specs.declared.instruction.Instruction.{Instruction}
 use Rattle.code.specs.declared.instruction.Instruction.TheVariants.{Set, Proc, Load, Store, Add, Sub, Less, Jump, Zero, Push, Pop, Print, Call, Tail, CallCc, CallOnce, Forget, DynamicWind, Return, Stop}
@@ -48,6 +48,10 @@ refusal_line (BadLabel n) = n
 refusal_line (MissingLabel n) = n
 refusal_line (TooManyInstructions n) = n
 refusal_line NoInstruction = 0
+
+-- how a refusal is told, as `sheet 3 line 7`
+abbrev pub refusal_text : SheetRefusal → List ℕ
+refusal_text r = codes "sheet " ++ (decimal (refusal_number r) ++ (codes " line " ++ decimal (refusal_line r)))
 
 -- The lines, in order.
 

@@ -1,5 +1,6 @@
 -- The twenty words that begin an instruction.
-use Rattle.std.specs.Prelude.{ℕ, cond, List, [], ◌∷◌, Some, None, codes, Option}
+use Rattle.std.specs.Prelude.{ℕ, List, [], ◌∷◌, codes, Option}
+use Rattle.std.specs.List.{find}
 use Rattle.sheet.specs.declared.mnemonic.Mnemonic.{Mnemonic}
 use Rattle.sheet.specs.declared.mnemonic.Mnemonic.TheVariants.{Set, Proc, Load, Store, Add, Sub, Less, Jump, Zero, Push, Pop, Print, Call, Tail, CallCc, CallOnce, Forget, DynamicWind, Return, Stop}
 use Rattle.lexer.specs.Bytes.{same}
@@ -56,8 +57,7 @@ vocabulary = Set ∷ Proc ∷ Load ∷ Store ∷ Add ∷ Sub ∷ Less ∷ Jump �
 
 -- the first of these that is spelled so
 abbrev pub spelled : List ℕ → List Mnemonic → Option Mnemonic
-spelled w [] = None
-spelled w (m ∷ ms) = cond (same w (spelling m)) (Some m) (spelled w ms)
+spelled w = find (λ m. same w (spelling m))
 
 -- the word that bytes spell, if they spell one
 abbrev pub mnemonic : List ℕ → Option Mnemonic

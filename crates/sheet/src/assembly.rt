@@ -1,18 +1,99 @@
-//! The tables that a sheet is read into.
+//! The tables that a sheet is read into, line by line.
+ghost use Rattle.std.specs.Prelude.{◌≡◌, ◌≤◌, length};
+ghost use Rattle.lexer.specs.Checks.{after};
+ghost use Rattle.lexer.specs.Names.{label_name};
+ghost use Rattle.sheet.specs.Assembly.{empty, defined, added, line_taken};
 
 use crate::draft::Draft;
+use crate::instruction_line::instruction;
 use crate::label::Label;
-use bounded::bounded::Bounded;
+use crate::labels::target;
+use crate::unresolved::Unresolved;
+use arrayvec::ArrayVec;
+use cell::address::Address;
 use code::code::CAPACITY;
-
-pub mod lines;
+use lexer::fault::Fault;
+use lexer::kinds::{kind, printable};
+use lexer::line::Line;
+use lexer::names::name;
+use std::marker::Model;
 
 /// How many labels a sheet may have.
 pub const MOST_LABELS: usize = 64;
 
 /// The labels and the instructions of the lines so far.
-#[derive(Drop)]
+#[derive(Debug, Drop)]
 pub struct Assembly {
-    labels: Bounded<Label, MOST_LABELS>,
-    drafts: Bounded<Draft, CAPACITY>,
+    labels: ArrayVec<Label, MOST_LABELS>,
+    drafts: ArrayVec<Draft, CAPACITY>,
+}
+
+impl Model for Assembly {
+    ghost use Rattle.sheet.specs.Assembly.{Assembly as Tables};
+
+    ghost Value = { Tables };
+
+    ghost view = { λ a. record { labels = a.labels.items; drafts = a.drafts.items } };
+}
+
+impl Assembly {
+    pub fn new() -> Self
+        ensures { result ≡ empty }
+    {
+        Assembly {
+            labels: ArrayVec::new(),
+            drafts: ArrayVec::new(),
+        }
+    }
+
+    /// The labels so far.
+    pub fn labels(&self) -> &[Label]
+        ensures { result.now ≡ self.now.labels }
+    {
+        self.labels.as_slice()
+    }
+
+    /// The instructions so far.
+    pub fn drafts(&self) -> &[Draft]
+        ensures value { result.now ≡ self.now.drafts }
+        ensures within { length result.now ≤ CAPACITY }
+    {
+        self.drafts.as_slice()
+    }
+
+    /// Defines a label at the place of the next instruction.
+    fn define(&mut self, bytes: &[u8]) -> Result<(), Fault>
+        ensures { after result self.new ≡ defined self.old (label_name bytes.now) }
+    {
+        let name = name(bytes).ok_or(Fault::BadLabel)?;
+        if target(&self.labels, name).is_some() {
+            return Err(Fault::BadLabel);
+        }
+        let address = Address(self.drafts.len() as u32);
+        self.labels
+            .try_push(Label { name, address })
+            .map_err(|_| Fault::BadLabel)
+    }
+
+    fn add(&mut self, line: u32, unresolved: Unresolved) -> Result<(), Fault>
+        ensures { after result self.new ≡ added self.old line unresolved }
+    {
+        self.drafts
+            .try_push(Draft { unresolved, line })
+            .map_err(|_| Fault::TooManyInstructions)
+    }
+
+    /// Takes in one more line, of this number.
+    pub fn take_line(&mut self, number: u32, line: &[u8]) -> Result<(), Fault>
+        ensures { after result self.new ≡ line_taken self.old number line.now }
+    {
+        if !printable(line) {
+            return Err(Fault::BadByte);
+        }
+        match kind(line) {
+            Line::Blank | Line::Comment => Ok(()),
+            Line::Label(bytes) => self.define(bytes),
+            Line::Code(text) => self.add(number, instruction(text)?),
+        }
+    }
 }

@@ -5,7 +5,6 @@ ghost use Rattle.sheet.specs.Operands.{plain as plains, waiting as waits, with_o
 use crate::mnemonic::Mnemonic;
 use crate::operands::{global, label, register, registers};
 use crate::unresolved::Unresolved;
-use crate::vocabulary::{arity, mnemonic};
 use cell::address::Address;
 use code::instruction::Instruction;
 use lexer::fault::Fault;
@@ -80,10 +79,8 @@ pub fn instruction(text: &[u8]) -> Result<Unresolved, Fault>
     ensures { result ≡ instructions text.now }
 {
     let mut words = Words::new(text);
-    let Some(known) = mnemonic(words.next_bytes()) else {
-        return Err(Fault::UnknownWord);
-    };
-    if space_count(text) != arity(known) {
+    let known = Mnemonic::from_word(words.next_bytes()).ok_or(Fault::UnknownWord)?;
+    if space_count(text) != known.arity() {
         return Err(Fault::BadOperand);
     }
     let a = words.next_bytes();

@@ -4,17 +4,14 @@ ghost use Rattle.sheet.specs.Assembly.{target as targets};
 
 use crate::label::Label;
 use cell::address::Address;
-use lexer::bytes::same;
 use lexer::label_name::LabelName;
 
 /// Where a label is, if it is defined.
 pub fn target(labels: &[Label], name: LabelName) -> Option<Address>
     ensures { result ≡ targets labels.now name }
 {
-    for label in labels {
-        if same(&label.name.letters, &name.letters) {
-            return Some(label.address);
-        }
-    }
-    None
+    labels
+        .iter()
+        .find(|label| label.name == name)
+        .map(|label| label.address)
 }

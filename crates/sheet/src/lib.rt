@@ -1,5 +1,5 @@
 //! Reading a rule sheet: from its bytes to code, or to the first refusal with its line.
-//! It rests on `lexer` for lines and words, on `code`, on `cell` for addresses, and on `bounded` for its tables.
+//! It rests on `lexer` for lines and words, on `code`, on `cell` for addresses, and on `arrayvec` for its tables.
 #![tactic(auto)]
 
 pub mod assembly;
@@ -13,4 +13,3 @@ pub mod reader;
 pub mod refusal;
 pub mod resolve;
 pub mod unresolved;
-pub mod vocabulary;

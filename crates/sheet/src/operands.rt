@@ -2,9 +2,8 @@
 ghost use Rattle.std.specs.Prelude.{◌≡◌, ◌<◌};
 ghost use Rattle.sheet.specs.Operands.{lettered as letters_read, register as registers_read, global as globals_read, label as labels_read, registers as three_read};
 
-use code::fits::{GLOBALS, REGISTERS};
-use code::global::Global;
-use code::register::Register;
+use code::global::{GLOBALS, Global};
+use code::register::{REGISTERS, Register};
 use lexer::fault::Fault;
 use lexer::label_name::LabelName;
 use lexer::names::name;
@@ -15,35 +14,28 @@ fn lettered(letter: u8, limit: u8, word: &[u8]) -> Result<u8, Fault>
     ensures { result ≡ letters_read letter limit word.now }
 {
     match word {
-        [first, digits @ ..] => {
-            if *first != letter {
-                return Err(Fault::BadOperand);
-            }
-            let Ok(n) = magnitude(digits) else {
-                return Err(Fault::BadOperand);
-            };
+        [first, digits @ ..] if *first == letter => {
+            let n = magnitude(digits).map_err(|_| Fault::BadOperand)?;
             if n < u64::from(limit) {
                 Ok(n as u8)
             } else {
                 Err(Fault::BadOperand)
             }
         }
-        [] => Err(Fault::BadOperand),
+        _ => Err(Fault::BadOperand),
     }
 }
 
 pub fn register(word: &[u8]) -> Result<Register, Fault>
     ensures { result ≡ registers_read word.now }
 {
-    let index = lettered(b'r', REGISTERS, word)?;
-    Ok(Register(index))
+    lettered(b'r', REGISTERS, word).map(Register)
 }
 
 pub fn global(word: &[u8]) -> Result<Global, Fault>
     ensures { result ≡ globals_read word.now }
 {
-    let index = lettered(b'g', GLOBALS, word)?;
-    Ok(Global(index))
+    lettered(b'g', GLOBALS, word).map(Global)
 }
 
 pub fn label(word: &[u8]) -> Result<LabelName, Fault>

@@ -1,14 +1,14 @@
 //! Labels put in for their names.
-ghost use Rattle.std.specs.Prelude.{◌≡◌, ◌≤◌, [], length};
-ghost use Rattle.bounded.specs.Listed.{listed};
+ghost use Rattle.std.specs.Prelude.{◌≡◌, []};
 ghost use Rattle.lexer.specs.Checks.{ok_mapped};
 ghost use Rattle.sheet.specs.Reading.{aimed as aims, resolved, resolved_onto};
 
+use crate::assembly::Assembly;
 use crate::draft::Draft;
 use crate::label::Label;
 use crate::labels::target;
 use crate::refusal::SheetRefusal;
-use bounded::bounded::Bounded;
+use arrayvec::ArrayVec;
 use cell::address::Address;
 use code::code::CAPACITY;
 use code::instruction::Instruction;
@@ -28,26 +28,23 @@ fn aimed(instruction: Instruction, address: Address) -> Instruction
 fn resolve(labels: &[Label], draft: Draft) -> Result<Instruction, SheetRefusal>
     ensures { result ≡ resolved labels.now draft }
 {
+    let instruction = draft.unresolved.instruction;
     let Some(name) = draft.unresolved.label else {
-        return Ok(draft.unresolved.instruction);
+        return Ok(instruction);
     };
-    match target(labels, name) {
-        Some(address) => Ok(aimed(draft.unresolved.instruction, address)),
-        None => Err(SheetRefusal::MissingLabel(draft.line)),
-    }
+    let address = target(labels, name).ok_or(SheetRefusal::MissingLabel(draft.line))?;
+    Ok(aimed(instruction, address))
 }
 
 /// All instructions with their addresses, or the first label that is missing.
 pub(crate) fn resolve_all(
-    labels: &[Label],
-    drafts: &[Draft],
-) -> Result<Bounded<Instruction, CAPACITY>, SheetRefusal>
-    requires { length drafts.now ≤ 256 }
-    ensures { ok_mapped listed result ≡ resolved_onto [] labels.now drafts.now }
+    assembly: &Assembly,
+) -> Result<ArrayVec<Instruction, CAPACITY>, SheetRefusal>
+    ensures { ok_mapped (λ v. v.items) result ≡ resolved_onto [] assembly.now.labels assembly.now.drafts }
 {
-    let mut list: Bounded<Instruction, CAPACITY> = Bounded::new(Instruction::Stop);
-    for draft in drafts {
-        let _ = list.push(resolve(labels, *draft)?);
+    let mut list = ArrayVec::new();
+    for draft in assembly.drafts() {
+        list.push(resolve(assembly.labels(), *draft)?);
     }
     Ok(list)
 }

@@ -6,8 +6,6 @@ ghost use Rattle.worked.specs.Rows.{AsTold};
 ghost use Rattle.worked.specs.Table.{table};
 
 /// Each sheet of the table reads and runs as the table tells: its bytes, end, steps, and winds entered and left.
-pub fn worked_sheets_run_as_told() -> u8
+pub fn worked_sheets_run_as_told()
     ensures { AsTold table }
-{
-    0
-}
+{}
