@@ -8,7 +8,7 @@ use crate::write::Write;
 
 /// What a step does, decided before any of it is done.
 /// A part that changes nothing is a variant, not `None`: a match on it stays one level deep.
-#[derive(Clone, Copy)]
+#[derive(Clone, Copy, PartialEq, Eq, Debug)]
 pub struct Act {
     pub write: Write,
     pub frames: FrameMove,

@@ -5,7 +5,7 @@ use code::global::Global;
 use code::register::Register;
 
 /// What a step writes to a register or a global.
-#[derive(Clone, Copy)]
+#[derive(Clone, Copy, PartialEq, Eq, Debug)]
 pub enum Write {
     Nothing,
     Register(Register, Value),
