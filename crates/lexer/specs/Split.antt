@@ -30,11 +30,6 @@ abbrev pub split_once : ℕ → List ℕ → Option (List ℕ × List ℕ)
 split_once s [] = None
 split_once s (b ∷ bs) = cond (b == s) (Some ([], bs)) (option_map (λ p. (b ∷ p.0, p.1)) (split_once s bs))
 
--- the first of a list, if there is one, and the others
-abbrev pub uncons : {A : Type 0} → List A → Option A × List A
-uncons [] = (None, [])
-uncons (x ∷ xs) = (Some x, xs)
-
 -- words parted by one space each, with the index of each in the line, where the first starts at `at`
 abbrev pub placed : ℕ → List (List ℕ) → List (ℕ × List ℕ)
 placed at [] = []

@@ -1,8 +1,7 @@
 //! The lines of a sheet.
 ghost use Rattle.std.specs.Prelude.{◌≡◌};
 ghost use Rattle.std.specs.Iterator.{YieldsFirstRef, item_count};
-ghost use Rattle.std.specs.Option.{option_map};
-ghost use Rattle.lexer.specs.Split.{lines, uncons};
+ghost use Rattle.lexer.specs.Split.{lines};
 
 use crate::split::split_once;
 use std::marker::Model;
@@ -28,13 +27,6 @@ impl<'a> Lines<'a> {
     {
         Lines { rest: sheet }
     }
-
-    /// The next line, without the byte that ends it.
-    pub fn next_line(&mut self) -> Option<&'a [u8]>
-        ensures { (option_map (λ x. x.now) result, self.new) ≡ uncons self.old }
-    {
-        self.next()
-    }
 }
 
 impl<'a> Iterator for Lines<'a> {
@@ -44,6 +36,7 @@ impl<'a> Iterator for Lines<'a> {
 
     ghost remaining = { item_count (λ left. left) };
 
+    /// The next line, without the byte that ends it.
     fn next(&mut self) -> Option<&'a [u8]> {
         if self.rest.is_empty() {
             return None;
