@@ -14,7 +14,7 @@ use std::marker::Model;
 pub const CAPACITY: usize = 256;
 
 /// At most 256 instructions, each of which fits: its registers and globals are there, and its addresses are at most
-/// the code's length.
+/// the code's length. Contracts see the list of them, the first at address 0.
 #[derive(Debug, Drop)]
 pub struct Code {
     instructions: ArrayVec<Instruction, CAPACITY>,
