@@ -4,5 +4,6 @@
 #![tactic(auto)]
 
 pub mod limits;
+pub mod places;
 pub mod row;
 pub mod table;
