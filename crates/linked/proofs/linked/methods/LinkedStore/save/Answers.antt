@@ -21,15 +21,17 @@ returns-in_err-add c =
     }
 
 pub share-requires : goal.share-requires
-share-requires c l = let s = c.args.self.now in sharable s (list_at s.top s.len) (facts_of s).fitting.0 l
+share-requires c l = let s = c.args.self.now in sharable s (list_at s.current.top s.current.len) (facts_of s).fitting.0 l
 
 pub invariant_of-self-2 : goal.invariant_of-self-2
-invariant_of-self-2 c = let s = c.args.self.now in save_owed s c.add.new.self c.args.name.0 (vec_items c.share.new.nodes) c.share.ensures c.in_ok-add.ensures.rows c.add.ensures.limit
+invariant_of-self-2 c =
+    let s = c.args.self.now in
+    save_owed s c.add.new.self c.args.name.0 (vec_items c.share.new.self.nodes) c.share.new.self.free c.share.ensures.nodes c.share.ensures.free c.in_ok-add.ensures.rows c.add.ensures.limit
 
 pub returns : goal.returns
 returns c =
     let s = c.args.self.now in
     record {
-      memory = fixed_same s _ _ c.add.ensures.limit (ap (drop (size s)) c.share.ensures ∙ shared-beyond s (list_at s.top s.len) (facts_of s).fitting.0);
-      call = save_means s c.add.new.self c.args.name.0 (vec_items c.share.new.nodes) c.share.ensures c.in_ok-add.ensures.rows c.add.ensures.limit;
+      memory = fixed_same s _ _ c.add.ensures.limit (ap (drop (size s)) c.share.ensures.nodes ∙ shared-beyond s (list_at s.current.top s.current.len) (facts_of s).fitting.0);
+      call = save_means s c.add.new.self c.args.name.0 (vec_items c.share.new.self.nodes) c.share.new.self.free c.share.ensures.nodes c.share.ensures.free c.in_ok-add.ensures.rows c.add.ensures.limit;
     }

@@ -1,0 +1,84 @@
+use Rattle.std.proofs.Common.{◌≡◌, ℕ, ◌+◌, ◌-◌, ◌^◌, ◌<◌, ◌≤◌, List, length, get_or, set, vec_items, sym, refl, ap, ◌∙◌, subst, arith, length-set}
+use Rattle.linked.specs.declared.node.Node.{Node}
+use Rattle.linked.specs.Chains.{node_at, with_top}
+use Rattle.linked.specs.Moves.{HoldsSomehow, Moved, recounted, shared}
+use Rattle.linked.proofs.Moving.{top_within, ends-within, ends-rest, read_node, pass_read, rid_read, left_le}
+use Rattle.linked.proofs.pool.Pool.drop_top.Goals as goal
+
+module _ (ns : List Node) (f t n : ℕ) (H : HoldsSomehow ns f t n) (some : 0 < n) where
+  in_nodes : t < length ns
+  in_nodes = let a = top_within ns H.size H.depth f t n H.others H.holds some in let b = H.holds.room in omega arith
+
+  -- the node below the top, if there is one
+  below : 1 < n → (node_at ns t).link < length ns
+  below l = let a = ends-within ns H.size (node_at ns t).link (n - 1) (omega arith) (ends-rest ns H.size t n some H.holds.ends) in let b = H.holds.room in omega arith
+
+pub index-node-requires : goal.index-node-requires
+index-node-requires c = let v = c.args.self.now.nodes in let a = in_nodes (vec_items v) c.args.self.now.free c.args.list.top c.args.list.len c.requires.held c.requires.some in let b = v.ok.0 in omega arith
+
+pub index_mut-requires : goal.index_mut-requires
+index_mut-requires c = let v = c.args.self.now.nodes in let a = in_nodes (vec_items v) c.args.self.now.free c.args.list.top c.args.list.len c.requires.held c.requires.some in let b = v.ok.0 in omega arith
+
+pub free_node-requires : goal.free_node-requires
+free_node-requires c = in_nodes (vec_items c.args.self.now.nodes) c.args.self.now.free c.args.list.top c.args.list.len c.requires.held c.requires.some
+
+-- the top as it was read, twice
+module _ (ns : List Node) (f t n : ℕ) (H : HoldsSomehow ns f t n) (some : 0 < n) (r x : Node) (read : r ≡ get_or ns t r) (again : x ≡ get_or ns t x) where
+  is : x ≡ node_at ns t
+  is = read_node ns t x (in_nodes ns f t n H some) again
+
+  same : r ≡ x
+  same = read_node ns t r (in_nodes ns f t n H some) read ∙ sym is
+
+  more : 1 < r.holders → 1 < x.holders
+  more two = let e = ap (λ (y : Node). y.holders) same in omega arith
+
+pub overflow_sub-index_mut : goal.overflow_sub-index_mut
+overflow_sub-index_mut c =
+    let two = more (vec_items c.args.self.now.nodes) c.args.self.now.free c.args.list.top c.args.list.len c.requires.held c.requires.some c.index-node.result.now c.index_mut.result.now c.index-node.ensures c.index_mut.ensures.value c.if-node-gt1.true in
+    omega arith
+
+pub share-requires : goal.share-requires
+share-requires c l =
+    let ns = vec_items c.args.self.now.nodes in
+    let f : ℕ = c.args.self.now.free in
+    let t : ℕ = c.args.list.top in
+    let n : ℕ = c.args.list.len in
+    let r = c.index-node.result.now in
+    let x = c.index_mut.result.now in
+    let e = same ns f t n c.requires.held c.requires.some r x c.index-node.ensures c.index_mut.ensures.value in
+    let i = is ns f t n c.requires.held c.requires.some r x c.index-node.ensures c.index_mut.ensures.value in
+    let a = in_nodes ns f t n c.requires.held c.requires.some in
+    let long = length-set ns t (recounted x (x.holders - 1)) in
+    let some : 1 < n = omega arith in
+    let link : r.link ≡ (node_at ns t).link = ap (λ (y : Node). y.link) (e ∙ i) in
+    let b = below ns f t n c.requires.held c.requires.some some in
+    let d = left_le ns t r.link x a i in
+    let h : (node_at ns r.link).holders + 1 < 2 ^ 32 = subst (λ k. (node_at ns k).holders + 1 < 2 ^ 32) (sym link) (c.requires.small some) in
+    (omega arith, omega arith)
+
+pub returns-then-node-gt1 : goal.returns-then-node-gt1
+returns-then-node-gt1 c p depth R H =
+    let ns = vec_items c.args.self.now.nodes in
+    let f : ℕ = c.args.self.now.free in
+    let t : ℕ = c.args.list.top in
+    let n : ℕ = c.args.list.len in
+    let r = c.index-node.result.now in
+    let x = c.index_mut.result.now in
+    let e = same ns f t n c.requires.held c.requires.some r x c.index-node.ensures c.index_mut.ensures.value in
+    let i = is ns f t n c.requires.held c.requires.some r x c.index-node.ensures c.index_mut.ensures.value in
+    let two = more ns f t n c.requires.held c.requires.some r x c.index-node.ensures c.index_mut.ensures.value c.if-node-gt1.true in
+    subst (λ ms. Moved ns ms p depth c.share.new.self.free (with_top (node_at ns t).link R) (with_top (node_at ns t).link R)) (sym c.share.ensures.nodes)
+    (subst (λ g. Moved ns (shared (set ns t (recounted x (x.holders - 1))) r.link (n - 1)) p depth g (with_top (node_at ns t).link R) (with_top (node_at ns t).link R)) (sym c.share.ensures.free)
+    (subst (λ (y : Node). Moved ns (shared (set ns t (recounted x (x.holders - 1))) y.link (n - 1)) p depth f (with_top (node_at ns t).link R) (with_top (node_at ns t).link R)) (sym e)
+    (pass_read ns p depth f t n R H c.requires.some x i two)))
+
+pub returns : goal.returns
+returns c p depth R H =
+    let ns = vec_items c.args.self.now.nodes in
+    let t : ℕ = c.args.list.top in
+    let r = c.index-node.result.now in
+    let is : r ≡ node_at ns t = read_node ns t r (in_nodes ns c.args.self.now.free t c.args.list.len c.requires.held c.requires.some) c.index-node.ensures in
+    let one : (node_at ns t).holders ≤ 1 = let e = ap (λ (y : Node). y.holders) is in let h = c.if-node-gt1.false in omega arith in
+    subst (λ ms. Moved ns ms p depth c.free_node.new.self.free (with_top (node_at ns t).link R) (with_top (node_at ns t).link R)) (sym c.free_node.ensures.nodes)
+    (subst (λ f. Moved ns (set ns t (record { cell = (node_at ns t).cell; link = c.args.self.now.free; holders = 0 })) p depth f (with_top (node_at ns t).link R) (with_top (node_at ns t).link R)) (sym c.free_node.ensures.free) (rid_read ns p depth c.args.self.now.free t c.args.list.len R H c.requires.some (node_at ns t) refl one))
