@@ -95,12 +95,6 @@ module _ (s : Copied) (short : s.len < s.depth) (c : Cell) (whole : length c.wor
   pub push_beyond : drop (size s) vs ≡ drop (size s) (words_of s)
   push_beyond = ap (drop (size s)) is ∙ (let a = part_past s.depth s.table.limit in written-beyond (words_of s) c.words s.len 1 in_first (omega arith) (size s) (omega arith))
 
-  -- the fields owe what they did
-  pub push_owed : Owed (length vs) s.table s.free.items s.depth (s.len + 1)
-  push_owed =
-      let long = ap length is ∙ written-long (words_of s) c.words s.len 1 in_first (omega arith) in
-      owed (length vs) s.table s.free.items s.depth (s.len + 1) s.table.limit _ _ refl refl refl (let a = s.room in omega arith) s.flat (omega arith) s.whole s.apart (rows_fit s) (spares_fit s)
-
 -- the last cell of the current list
 pub pop_means : (s : Copied) (x : Cell) → 0 < s.len → x ≡ cell_at (words_of s) (s.len - 1) → (Ok x, by_rows (read_row (words_of s) s.depth) (cells (words_of s) 0 (s.len - 1)) (listed s.table) s.depth s.table.limit) ≡ popped (meant s)
 pop_means s x some is =

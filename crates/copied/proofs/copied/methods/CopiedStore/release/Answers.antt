@@ -1,30 +1,21 @@
-use Rattle.std.proofs.Common.{Err, refl, ap, ◌∙◌, arith}
+use Rattle.std.proofs.Common.{Err, refl, ap, ◌∙◌}
 use Rattle.std.proofs.lemmas.Result.{err_from_is_err_and}
 use Rattle.bottom.specs.Tables.{listed}
 use Rattle.copied.specs.Parts.{read_row}
 use Rattle.copied.proofs.Stores.{words_of}
 use Rattle.bottom.proofs.Answered.{is_held, released_none}
-use Rattle.copied.proofs.Calls.{fixed_same, refused_owed, refused_means, gone_room, gone_owed, release_means}
+use Rattle.copied.proofs.Calls.{refused_owed, refused_means, gone_owed, release_means}
 use Rattle.copied.proofs.copied.methods.CopiedStore.release.Goals as goal
 
 pub invariant_of-self : goal.invariant_of-self
 invariant_of-self c = refused_owed c.args.self.now c.args.name.0 c.remove.new.self c.in_err-row.field-0.0 c.in_err-row.ensures.row c.in_err-row.ensures.rows c.in_err-row.ensures.limit
 
-pub returns-in_err-row : goal.returns-in_err-row
-returns-in_err-row c =
+pub returns-in_err-row-clause-call : goal.returns-in_err-row-clause-call
+returns-in_err-row-clause-call c =
     let s = c.args.self.now in
     let p = err_from_is_err_and c.from_residual.result c.from_residual.ensures.1 in
-    record {
-      memory = fixed_same s (words_of s) _ c.in_err-row.ensures.limit refl;
-      call = ap (λ m. (c.from_residual.result, m)) (refused_means s c.args.name.0 c.remove.new.self c.in_err-row.field-0.0 c.in_err-row.ensures.row c.in_err-row.ensures.rows c.in_err-row.ensures.limit)
-          ∙ released_none (read_row (words_of s) s.depth) _ (listed s.table) s.depth s.table.limit c.args.name.0 c.in_err-row.field-0.0 c.in_err-row.ensures.row c.from_residual.result (p.1 ∙ ap Err p.2);
-    }
-
-pub push-requires : goal.push-requires
-push-requires c =
-    let s = c.args.self.now in
-    let l = gone_room s c.args.name.0 c.in_ok-row.row (is_held _ _ c.in_ok-row.ensures.row) c.remove.new.self c.in_ok-row.ensures.rows c.in_ok-row.ensures.limit in
-    (omega arith, l)
+    ap (λ m. (c.from_residual.result, m)) (refused_means s c.args.name.0 c.remove.new.self c.in_err-row.field-0.0 c.in_err-row.ensures.row c.in_err-row.ensures.rows c.in_err-row.ensures.limit)
+    ∙ released_none (read_row (words_of s) s.depth) _ (listed s.table) s.depth s.table.limit c.args.name.0 c.in_err-row.field-0.0 c.in_err-row.ensures.row c.from_residual.result (p.1 ∙ ap Err p.2)
 
 pub invariant_of-self-2 : goal.invariant_of-self-2
 invariant_of-self-2 c =
@@ -32,11 +23,8 @@ invariant_of-self-2 c =
     let r = c.in_ok-row.row in
     gone_owed s c.args.name.0 r (is_held _ r c.in_ok-row.ensures.row) c.remove.new.self c.in_ok-row.ensures.rows c.in_ok-row.ensures.limit _ s.len _ c.push.ensures.items refl s.fits
 
-pub returns : goal.returns
-returns c =
+pub returns-clause-call : goal.returns-clause-call
+returns-clause-call c =
     let s = c.args.self.now in
     let r = c.in_ok-row.row in
-    record {
-      memory = fixed_same s (words_of s) _ c.in_ok-row.ensures.limit refl;
-      call = release_means s c.args.name.0 r (is_held _ r c.in_ok-row.ensures.row) c.remove.new.self c.in_ok-row.ensures.rows c.in_ok-row.ensures.limit;
-    }
+    release_means s c.args.name.0 r (is_held _ r c.in_ok-row.ensures.row) c.remove.new.self c.in_ok-row.ensures.rows c.in_ok-row.ensures.limit

@@ -7,11 +7,11 @@ use Rattle.bottom.proofs.Answered.{is_held, restored_none, restored_some}
 use Rattle.copied.proofs.Calls.{fixed_same, row-fit, part_in, first_in, load_beyond, load_means, restore_owed}
 use Rattle.copied.proofs.copied.methods.CopiedStore.restore.Goals as goal
 
-pub returns-in_err-row : goal.returns-in_err-row
-returns-in_err-row c =
+pub returns-in_err-row-clause-call : goal.returns-in_err-row-clause-call
+returns-in_err-row-clause-call c =
     let s = c.args.self.now in
     let p = err_from_is_err_and c.from_residual.result c.from_residual.ensures.1 in
-    record { memory = refl; call = restored_none (read_row (words_of s) s.depth) _ (listed s.table) s.depth s.table.limit c.args.name.0 c.in_err-row.field-0.0 c.in_err-row.ensures c.from_residual.result (p.1 ∙ ap Err p.2) }
+    restored_none (read_row (words_of s) s.depth) _ (listed s.table) s.depth s.table.limit c.args.name.0 c.in_err-row.field-0.0 c.in_err-row.ensures c.from_residual.result (p.1 ∙ ap Err p.2)
 
 pub copy_cells-requires : goal.copy_cells-requires
 copy_cells-requires c =

@@ -6,7 +6,7 @@ use Rattle.bottom.specs.Tables.{listed}
 use Rattle.copied.proofs.Stores.{words_copied}
 use Rattle.std.proofs.lemmas.Result.{err_from_is_err_and}
 use Rattle.bottom.proofs.Tables.{added-taken, added_full}
-use Rattle.copied.proofs.Calls.{fixed_same, row_for, part_in, first_in, place_in, save_refused, all_held, save_owed, save_means, save_beyond}
+use Rattle.copied.proofs.Calls.{fixed_same, row_for, save_refused, all_held, save_owed, save_means, save_beyond}
 use Rattle.copied.proofs.copied.methods.CopiedStore.save.Goals as goal
 
 pub returns-in_err-admit : goal.returns-in_err-admit
@@ -34,14 +34,6 @@ returns-in_err-place-clause-call c =
 -- the place that was taken
 taken : (old new : List ℕ) (o : Option ℕ) (p : ℕ) → old ≡ new ++ option_to_list o → o ≡ Some p → old ≡ new ++ (p ∷ [])
 taken old new o p e is = e ∙ ap (λ q. new ++ option_to_list q) is
-
-pub copy_cells-requires : goal.copy_cells-requires
-copy_cells-requires c =
-    let s = c.args.self.now in
-    let place : ℕ = c.in_ok-place.place in
-    let l = place_in s c.args.name.0 place c.pop.new.self.items (taken _ _ _ _ c.pop.ensures.items c.in_ok-place.ensures.ok_part) in
-    let a = part_in s place l in let b = s.fits in let d = first_in s in let e = s.memory.ok.0 in
-    record { source = omega arith; target = omega arith }
 
 pub invariant_of-self-2 : goal.invariant_of-self-2
 invariant_of-self-2 c =

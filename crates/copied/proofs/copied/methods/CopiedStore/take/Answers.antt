@@ -5,27 +5,18 @@ use Rattle.bottom.specs.Rows.{rows_without}
 use Rattle.copied.specs.Parts.{read_row}
 use Rattle.copied.proofs.Stores.{words_of, words_copied}
 use Rattle.bottom.proofs.Answered.{is_held, taken_none, taken_some}
-use Rattle.copied.proofs.Calls.{fixed_same, refused_owed, refused_means, row-fit, part_in, first_in, load_beyond, load_long, load_means, gone_room, gone_owed}
+use Rattle.copied.proofs.Calls.{fixed_same, refused_owed, refused_means, row-fit, part_in, first_in, load_beyond, load_long, load_means, gone_owed}
 use Rattle.copied.proofs.copied.methods.CopiedStore.take.Goals as goal
 
 pub invariant_of-self : goal.invariant_of-self
 invariant_of-self c = refused_owed c.args.self.now c.args.name.0 c.remove.new.self c.in_err-row.field-0.0 c.in_err-row.ensures.row c.in_err-row.ensures.rows c.in_err-row.ensures.limit
 
-pub returns-in_err-row : goal.returns-in_err-row
-returns-in_err-row c =
+pub returns-in_err-row-clause-call : goal.returns-in_err-row-clause-call
+returns-in_err-row-clause-call c =
     let s = c.args.self.now in
     let p = err_from_is_err_and c.from_residual.result c.from_residual.ensures.1 in
-    record {
-      memory = fixed_same s (words_of s) _ c.in_err-row.ensures.limit refl;
-      call = ap (λ m. (c.from_residual.result, m)) (refused_means s c.args.name.0 c.remove.new.self c.in_err-row.field-0.0 c.in_err-row.ensures.row c.in_err-row.ensures.rows c.in_err-row.ensures.limit)
-          ∙ taken_none (read_row (words_of s) s.depth) _ (listed s.table) s.depth s.table.limit c.args.name.0 c.in_err-row.field-0.0 c.in_err-row.ensures.row c.from_residual.result (p.1 ∙ ap Err p.2);
-    }
-
-pub push-requires : goal.push-requires
-push-requires c =
-    let s = c.args.self.now in
-    let l = gone_room s c.args.name.0 c.in_ok-row.row (is_held _ _ c.in_ok-row.ensures.row) c.remove.new.self c.in_ok-row.ensures.rows c.in_ok-row.ensures.limit in
-    (omega arith, l)
+    ap (λ m. (c.from_residual.result, m)) (refused_means s c.args.name.0 c.remove.new.self c.in_err-row.field-0.0 c.in_err-row.ensures.row c.in_err-row.ensures.rows c.in_err-row.ensures.limit)
+    ∙ taken_none (read_row (words_of s) s.depth) _ (listed s.table) s.depth s.table.limit c.args.name.0 c.in_err-row.field-0.0 c.in_err-row.ensures.row c.from_residual.result (p.1 ∙ ap Err p.2)
 
 pub copy_cells-requires : goal.copy_cells-requires
 copy_cells-requires c =
