@@ -4,6 +4,8 @@ use Rattle.std.specs.Option.{option_map, ok_or}
 use Rattle.std.specs.List.{AllByRecursion as All}
 use Rattle.std.proofs.ByRecursion.{All-weaker}
 use Rattle.std.proofs.lemmas.List.{map_push, length-map}
+use Rattle.std.specs.Result.{IsErrAnd}
+use Rattle.std.proofs.lemmas.Result.{err_from_is_err_and}
 use Rattle.store.specs.declared.refusal.Refusal.{Refusal}
 use Rattle.store.specs.declared.refusal.Refusal.TheVariants.{HeldFull, NameTaken, NotHeld}
 use Rattle.store.specs.Meaning.{Meaning, Held, Outcome, saved_under, without, saved, saved_by, restored, restored_by, taken, taken_by, released, released_by, saved_length, length_by, saved_cell_in, cell_by, cell_in, with_held}
@@ -11,6 +13,10 @@ use Rattle.bottom.specs.declared.row.Row.{Row}
 use Rattle.bottom.specs.Rows.{row_under, rows_without, added, added_by}
 use Rattle.bottom.specs.Meant.{pair_by, bottom, by_rows}
 use Rattle.bottom.proofs.Rows.{map_alike}
+
+-- a refusal that was handed on
+pub handed_on : {B : Type 0} (a : Result B Refusal) (x : Refusal) → IsErrAnd a (λ y. y ≡ x) → a ≡ Err x
+handed_on a x h = let p = err_from_is_err_and a h in p.1 ∙ ap Err p.2
 
 -- what a table's refusal says
 pub not_held : (o : Option Row) (x : Refusal) → Err x ≡ ok_or o NotHeld → (o ≡ None) × (x ≡ NotHeld)
@@ -53,20 +59,20 @@ module _ {A : Type 0} (read : Row → List A) where
       refused : (row_under rs n ≡ None) × (x ≡ NotHeld)
       refused = not_held (row_under rs n) x none
 
-      pub restored_none : (a : Result (Unit {0}) Refusal) → a ≡ Err x → (a, meant) ≡ restored meant n
-      restored_none a e = ap (λ b. (b, meant)) (e ∙ ap Err refused.1) ∙ sym (ap (restored_by meant) (under_is n None refused.0))
+      pub restored_none : (a : Result (Unit {0}) Refusal) → IsErrAnd a (λ y. y ≡ x) → (a, meant) ≡ restored meant n
+      restored_none a h = ap (λ b. (b, meant)) (handed_on a x h ∙ ap Err refused.1) ∙ sym (ap (restored_by meant) (under_is n None refused.0))
 
-      pub taken_none : (a : Result (Unit {0}) Refusal) → a ≡ Err x → (a, meant) ≡ taken meant n
-      taken_none a e = ap (λ b. (b, meant)) (e ∙ ap Err refused.1) ∙ sym (ap (taken_by meant n) (under_is n None refused.0))
+      pub taken_none : (a : Result (Unit {0}) Refusal) → IsErrAnd a (λ y. y ≡ x) → (a, meant) ≡ taken meant n
+      taken_none a h = ap (λ b. (b, meant)) (handed_on a x h ∙ ap Err refused.1) ∙ sym (ap (taken_by meant n) (under_is n None refused.0))
 
-      pub released_none : (a : Result (Unit {0}) Refusal) → a ≡ Err x → (a, meant) ≡ released meant n
-      released_none a e = ap (λ b. (b, meant)) (e ∙ ap Err refused.1) ∙ sym (ap (released_by meant n) (under_is n None refused.0))
+      pub released_none : (a : Result (Unit {0}) Refusal) → IsErrAnd a (λ y. y ≡ x) → (a, meant) ≡ released meant n
+      released_none a h = ap (λ b. (b, meant)) (handed_on a x h ∙ ap Err refused.1) ∙ sym (ap (released_by meant n) (under_is n None refused.0))
 
-      pub length_none : (a : Result ℕ Refusal) → a ≡ Err x → a ≡ saved_length meant n
-      length_none a e = e ∙ ap Err refused.1 ∙ sym (ap length_by (under_is n None refused.0))
+      pub length_none : (a : Result ℕ Refusal) → IsErrAnd a (λ y. y ≡ x) → a ≡ saved_length meant n
+      length_none a h = handed_on a x h ∙ ap Err refused.1 ∙ sym (ap length_by (under_is n None refused.0))
 
-      pub cell_none : (i : ℕ) (a : Result A Refusal) → a ≡ Err x → a ≡ saved_cell_in meant n i
-      cell_none i a e = e ∙ ap Err refused.1 ∙ sym (ap (λ p. cell_by p i) (under_is n None refused.0))
+      pub cell_none : (i : ℕ) (a : Result A Refusal) → IsErrAnd a (λ y. y ≡ x) → a ≡ saved_cell_in meant n i
+      cell_none i a h = handed_on a x h ∙ ap Err refused.1 ∙ sym (ap (λ p. cell_by p i) (under_is n None refused.0))
 
     -- the answers where a row has the name
     pub restored_some : (n : ℕ) (r : Row) → row_under rs n ≡ Some r → (Ok tt, by_rows read (read r) rs depth limit) ≡ restored meant n

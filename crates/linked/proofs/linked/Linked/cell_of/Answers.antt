@@ -7,10 +7,10 @@ use Rattle.linked.specs.declared.linked.Linked.{Linked}
 use Rattle.store.specs.declared.refusal.Refusal.TheVariants.{NoIndex}
 use Rattle.linked.specs.Chains.{node_at, cells, ends}
 use Rattle.linked.proofs.Changes.{ends-from, ends_to}
-use Rattle.linked.proofs.Facts.{length-cells, needed_small, cell_down, cell_top}
+use Rattle.linked.proofs.Facts.{length-cells, cell_down, cell_top}
 use Rattle.linked.specs.Meant.{size}
 use Rattle.linked.proofs.Moving.{read_node}
-use Rattle.linked.proofs.Stores.{nodes_of, within_len, in_nodes}
+use Rattle.linked.proofs.Stores.{nodes_of, in_nodes}
 use Rattle.linked.proofs.linked.Linked.cell_of.Goals as goal
 
 pub returns-then-index-list : goal.returns-then-index-list
@@ -30,18 +30,6 @@ loop-init c =
 -- the node that the loop has come to
 at_in : (s : Linked) (t n : ℕ) → ends (nodes_of s) (size s) t (suc n) ≡ true → t < size s
 at_in s t n e = (ends-from (nodes_of s) (size s) (suc n) t e).0
-
-pub overflow_cast-at : goal.overflow_cast-at
-overflow_cast-at c = let s = c.args.self.now in let a = at_in s c.loop.at (c.args.index + (c.args.list.len - c.loop.counter)) c.loop.invariant.0 in let b = needed_small s.depth s.table.limit s.flat s.table.few in omega arith
-
-pub overflow_cast-at-2 : goal.overflow_cast-at-2
-overflow_cast-at-2 c = let s = c.args.self.now in let a = at_in s c.loop.at (c.args.index + (c.args.list.len - c.loop.counter)) c.loop.invariant.0 in let b = needed_small s.depth s.table.limit s.flat s.table.few in omega arith
-
-pub index-requires : goal.index-requires
-index-requires c = let s = c.args.self.now in within_len s c.loop.at (at_in s c.loop.at (c.args.index + (c.args.list.len - c.loop.counter)) c.loop.invariant.0)
-
-pub index-requires-2 : goal.index-requires-2
-index-requires-2 c = let s = c.args.self.now in within_len s c.loop.at (at_in s c.loop.at (c.args.index + (c.args.list.len - c.loop.counter)) c.loop.invariant.0)
 
 -- one node further down
 down : (s : Linked) (t n index : ℕ) (r : Node) → r ≡ node_at (nodes_of s) t → index < n → ends (nodes_of s) (size s) t (suc n) ≡ true

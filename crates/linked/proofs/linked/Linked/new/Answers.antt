@@ -5,16 +5,6 @@ use Rattle.linked.proofs.Facts.{new_facts, needed_small}
 use Rattle.linked.proofs.Stores.{Owed, owed}
 use Rattle.linked.proofs.linked.Linked.new.Goals as goal
 
-pub new-requires : goal.new-requires
-new-requires c =
-    let room : ℕ = c.len.result in
-    let depth : ℕ = c.granted-depth.result.0 in
-    let held : ℕ = c.granted-depth.result.1 in
-    let granted = subst (λ (p : ℕ × ℕ). Granted room p.0 p.1) (sym c.granted-depth.ensures) (granted_fits room c.args.depth c.args.held) in
-    let few = needed_small depth held granted.flat granted.few in
-    let a = granted.enough in let b = c.len.ensures in let d = c.args.memory.ok.0 in let e = c.cells_needed-size.ensures in
-    (omega arith, omega arith)
-
 pub invariant_of-result : goal.invariant_of-result
 invariant_of-result c =
     let t = c.new-2.result in

@@ -13,15 +13,6 @@ module _ (ns : List Node) (f t n : ℕ) (H : HoldsSomehow ns f t n) (some : 0 < 
   below : 1 < n → (node_at ns t).link < length ns
   below l = let a = ends-within ns H.size (node_at ns t).link (n - 1) (omega arith) (ends-rest ns H.size t n some H.holds.ends) in let b = H.holds.room in omega arith
 
-pub index-node-requires : goal.index-node-requires
-index-node-requires c = let v = c.args.self.now.nodes in let a = in_nodes (vec_items v) c.args.self.now.free c.args.list.top c.args.list.len c.requires.held c.requires.some in let b = v.ok.0 in omega arith
-
-pub index_mut-requires : goal.index_mut-requires
-index_mut-requires c = let v = c.args.self.now.nodes in let a = in_nodes (vec_items v) c.args.self.now.free c.args.list.top c.args.list.len c.requires.held c.requires.some in let b = v.ok.0 in omega arith
-
-pub free_node-requires : goal.free_node-requires
-free_node-requires c = in_nodes (vec_items c.args.self.now.nodes) c.args.self.now.free c.args.list.top c.args.list.len c.requires.held c.requires.some
-
 -- the top as it was read, twice
 module _ (ns : List Node) (f t n : ℕ) (H : HoldsSomehow ns f t n) (some : 0 < n) (r x : Node) (read : r ≡ get_or ns t r) (again : x ≡ get_or ns t x) where
   is : x ≡ node_at ns t
@@ -32,11 +23,6 @@ module _ (ns : List Node) (f t n : ℕ) (H : HoldsSomehow ns f t n) (some : 0 < 
 
   more : 1 < r.holders → 1 < x.holders
   more two = let e = ap (λ (y : Node). y.holders) same in omega arith
-
-pub overflow_sub-index_mut : goal.overflow_sub-index_mut
-overflow_sub-index_mut c =
-    let two = more (vec_items c.args.self.now.nodes) c.args.self.now.free c.args.list.top c.args.list.len c.requires.held c.requires.some c.index-node.result.now c.index_mut.result.now c.index-node.ensures c.index_mut.ensures.value c.if-node-gt1.true in
-    omega arith
 
 pub share-requires : goal.share-requires
 share-requires c l =

@@ -4,7 +4,7 @@ use Rattle.bottom.proofs.Rows.{bit_other}
 use Rattle.linked.specs.declared.node.Node.{Node}
 use Rattle.linked.specs.Chains.{node_at, with_top, Ends}
 use Rattle.linked.specs.Moves.{Holds, HoldsSomehow, Moved, recounted}
-use Rattle.linked.proofs.Moving.{top_within, read_node, moved_none, moved_both, moved_for, leave_read, rid_read, rid_read_holds}
+use Rattle.linked.proofs.Moving.{top_within, read_node, moved_both, moved_for, leave_read, rid_read, rid_read_holds}
 use Rattle.linked.proofs.pool.Pool.let_go.Goals as goal
 
 -- what holds of the nodes where a turn begins
@@ -46,13 +46,6 @@ module _ (ns ms : List Node) (f t n g u m : ℕ) (H : HoldsSomehow ns f t n) (go
     pub turned : r.holders ≤ 1 → (ks : List Node) (h k : ℕ) → ks ≡ freed → h ≡ u → k ≡ m - 1 → Going ns ks f t n h r.link k
     turned one ks h k ks_is h_is k_is =
         subst (λ xs. Going ns xs f t n h r.link k) (sym ks_is) (subst (λ x. Going ns freed f t n x r.link k) (sym h_is) (subst (λ x. Going ns freed f t n u r.link x) (sym k_is) (next one)))
-
-pub loop-init : goal.loop-init
-loop-init c p depth R H =
-    let z : c.args.list.len - 0 ≡ c.args.list.len = omega arith in (
-      moved_none (vec_items c.args.self.now.nodes) p depth c.args.self.now.free (with_top c.args.list.top R) R H.sound,
-      subst (λ n. Holds (vec_items c.args.self.now.nodes) p depth c.args.self.now.free c.args.list.top n R) (sym z) H,
-    )
 
 pub index-node-requires : goal.index-node-requires
 index-node-requires c =

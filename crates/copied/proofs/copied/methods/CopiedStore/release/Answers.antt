@@ -1,5 +1,4 @@
-use Rattle.std.proofs.Common.{Err, refl, ap, ◌∙◌}
-use Rattle.std.proofs.lemmas.Result.{err_from_is_err_and}
+use Rattle.std.proofs.Common.{refl, ap, ◌∙◌}
 use Rattle.bottom.specs.Tables.{listed}
 use Rattle.copied.specs.Parts.{read_row}
 use Rattle.copied.proofs.Stores.{words_of}
@@ -13,9 +12,8 @@ invariant_of-self c = refused_owed c.args.self.now c.args.name.0 c.remove.new.se
 pub returns-in_err-row-clause-call : goal.returns-in_err-row-clause-call
 returns-in_err-row-clause-call c =
     let s = c.args.self.now in
-    let p = err_from_is_err_and c.from_residual.result c.from_residual.ensures.1 in
     ap (λ m. (c.from_residual.result, m)) (refused_means s c.args.name.0 c.remove.new.self c.in_err-row.field-0.0 c.in_err-row.ensures.row c.in_err-row.ensures.rows c.in_err-row.ensures.limit)
-    ∙ released_none (read_row (words_of s) s.depth) _ (listed s.table) s.depth s.table.limit c.args.name.0 c.in_err-row.field-0.0 c.in_err-row.ensures.row c.from_residual.result (p.1 ∙ ap Err p.2)
+    ∙ released_none (read_row (words_of s) s.depth) _ (listed s.table) s.depth s.table.limit c.args.name.0 c.in_err-row.field-0.0 c.in_err-row.ensures.row c.from_residual.result c.from_residual.ensures.1
 
 pub invariant_of-self-2 : goal.invariant_of-self-2
 invariant_of-self-2 c =

@@ -1,5 +1,4 @@
-use Rattle.std.proofs.Common.{◌≡◌, length, Ok, Err, vec_len, refl, ap, ◌∙◌, arith, rules}
-use Rattle.std.proofs.lemmas.Result.{err_from_is_err_and}
+use Rattle.std.proofs.Common.{◌≡◌, length, Ok, vec_len, refl, ap, ◌∙◌, arith, rules}
 use Rattle.bottom.specs.Tables.{listed}
 use Rattle.copied.specs.Parts.{read_row}
 use Rattle.copied.proofs.Stores.{words_of, words_copied}
@@ -10,8 +9,7 @@ use Rattle.copied.proofs.copied.methods.CopiedStore.restore.Goals as goal
 pub returns-in_err-row-clause-call : goal.returns-in_err-row-clause-call
 returns-in_err-row-clause-call c =
     let s = c.args.self.now in
-    let p = err_from_is_err_and c.from_residual.result c.from_residual.ensures.1 in
-    restored_none (read_row (words_of s) s.depth) _ (listed s.table) s.depth s.table.limit c.args.name.0 c.in_err-row.field-0.0 c.in_err-row.ensures c.from_residual.result (p.1 ∙ ap Err p.2)
+    restored_none (read_row (words_of s) s.depth) _ (listed s.table) s.depth s.table.limit c.args.name.0 c.in_err-row.field-0.0 c.in_err-row.ensures c.from_residual.result c.from_residual.ensures.1
 
 pub copy_cells-requires : goal.copy_cells-requires
 copy_cells-requires c =

@@ -4,7 +4,7 @@ use Rattle.std.proofs.lemmas.Bool.{cases_lt, false≢true}
 use Rattle.store.specs.declared.refusal.Refusal.TheVariants.{HeldFull}
 use Rattle.bottom.specs.Tables.{listed}
 use Rattle.copied.proofs.Stores.{words_copied}
-use Rattle.std.proofs.lemmas.Result.{err_from_is_err_and}
+use Rattle.bottom.proofs.Answered.{handed_on}
 use Rattle.bottom.proofs.Tables.{added-taken, added_full}
 use Rattle.copied.proofs.Calls.{fixed_same, row_for, save_refused, all_held, save_owed, save_means, save_beyond}
 use Rattle.copied.proofs.copied.methods.CopiedStore.save.Goals as goal
@@ -13,9 +13,8 @@ pub returns-in_err-admit : goal.returns-in_err-admit
 returns-in_err-admit c =
     let s = c.args.self.now in
     let n : ℕ = c.args.name.0 in
-    let p = err_from_is_err_and c.from_residual.result c.from_residual.ensures.1 in
     let x = c.in_err-admit.field-0.0 in
-    record { memory = refl; call = save_refused s n c.from_residual.result x (p.1 ∙ ap Err p.2) (added-taken s.table.limit (listed s.table) (row_for s n 0) x c.in_err-admit.ensures) }
+    record { memory = refl; call = save_refused s n c.from_residual.result x (handed_on _ _ c.from_residual.ensures.1) (added-taken s.table.limit (listed s.table) (row_for s n 0) x c.in_err-admit.ensures) }
 
 -- where no place is given out, none is free
 none_free : (o : Option ℕ) (n : ℕ) → (0 < n → IsSome o) → o ≡ None → n ≡ 0
@@ -26,10 +25,9 @@ pub returns-in_err-place-clause-call : goal.returns-in_err-place-clause-call
 returns-in_err-place-clause-call c =
     let s = c.args.self.now in
     let n : ℕ = c.args.name.0 in
-    let p = err_from_is_err_and c.from_residual-in_err-place.result c.from_residual-in_err-place.ensures.1 in
     let none = c.in_err-place.ensures.ok_part in
     let full : c.in_err-place.field-0.0 ≡ HeldFull = let v = c.in_err-place.ensures.value ∙ ap (λ o. ok_or o HeldFull) none in cc in
-    save_refused s n c.from_residual-in_err-place.result HeldFull (p.1 ∙ ap Err (p.2 ∙ full)) (added_full s.table.limit (listed s.table) (row_for s n 0) (all_held s (none_free c.pop.result _ c.pop.ensures.variant.1 none)) c.in_ok-admit.ensures)
+    save_refused s n c.from_residual-in_err-place.result HeldFull (handed_on _ _ c.from_residual-in_err-place.ensures.1 ∙ ap Err full) (added_full s.table.limit (listed s.table) (row_for s n 0) (all_held s (none_free c.pop.result _ c.pop.ensures.variant.1 none)) c.in_ok-admit.ensures)
 
 -- the place that was taken
 taken : (old new : List ℕ) (o : Option ℕ) (p : ℕ) → old ≡ new ++ option_to_list o → o ≡ Some p → old ≡ new ++ (p ∷ [])

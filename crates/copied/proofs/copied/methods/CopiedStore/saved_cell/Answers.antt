@@ -1,10 +1,9 @@
-use Rattle.std.proofs.Common.{◌+◌, Ok, Err, sym, ap, ◌∙◌, arith}
+use Rattle.std.proofs.Common.{◌+◌, Ok, sym, ap, ◌∙◌, arith}
 use Rattle.bottom.specs.Tables.{listed}
 use Rattle.copied.specs.Cells.{cell_at, cells}
 use Rattle.copied.specs.Parts.{read_row, part_start}
 use Rattle.copied.proofs.Stores.{words_of}
 use Rattle.std.specs.Option.{ok_or}
-use Rattle.std.proofs.lemmas.Result.{err_from_is_err_and}
 use Rattle.store.specs.declared.refusal.Refusal.TheVariants.{NoIndex}
 use Rattle.bottom.proofs.Answered.{is_held, cell_none, cell_some}
 use Rattle.copied.proofs.Calls.{nth_cells, nth_beyond, row-fit, part_in}
@@ -13,8 +12,7 @@ use Rattle.copied.proofs.copied.methods.CopiedStore.saved_cell.Goals as goal
 pub returns-in_err-row : goal.returns-in_err-row
 returns-in_err-row c =
     let s = c.args.self.now in
-    let p = err_from_is_err_and c.from_residual.result c.from_residual.ensures.1 in
-    cell_none (read_row (words_of s) s.depth) (cells (words_of s) 0 s.len) (listed s.table) s.depth s.table.limit c.args.name.0 c.in_err-row.field-0.0 c.in_err-row.ensures c.args.index c.from_residual.result (p.1 ∙ ap Err p.2)
+    cell_none (read_row (words_of s) s.depth) (cells (words_of s) 0 s.len) (listed s.table) s.depth s.table.limit c.args.name.0 c.in_err-row.field-0.0 c.in_err-row.ensures c.args.index c.from_residual.result c.from_residual.ensures.1
 
 pub returns-then-index-row : goal.returns-then-index-row
 returns-then-index-row c =

@@ -1,18 +1,16 @@
-use Rattle.std.proofs.Common.{Ok, Err, sym, ap, ◌∙◌}
+use Rattle.std.proofs.Common.{Ok, sym, ap, ◌∙◌}
 use Rattle.bottom.specs.Tables.{listed}
 use Rattle.copied.specs.Cells.{cell_at, cells}
 use Rattle.copied.specs.Parts.{read_row, part_start}
 use Rattle.copied.proofs.Stores.{words_of}
 use Rattle.std.proofs.lemmas.List.FromFn.{length-map-range_with_len}
-use Rattle.std.proofs.lemmas.Result.{err_from_is_err_and}
 use Rattle.bottom.proofs.Answered.{is_held, length_none, length_some}
 use Rattle.copied.proofs.copied.methods.CopiedStore.saved_len.Goals as goal
 
 pub returns-in_err-row : goal.returns-in_err-row
 returns-in_err-row c =
     let s = c.args.self.now in
-    let p = err_from_is_err_and c.from_residual.result c.from_residual.ensures.1 in
-    length_none (read_row (words_of s) s.depth) (cells (words_of s) 0 s.len) (listed s.table) s.depth s.table.limit c.args.name.0 c.in_err-row.field-0.0 c.in_err-row.ensures c.from_residual.result (p.1 ∙ ap Err p.2)
+    length_none (read_row (words_of s) s.depth) (cells (words_of s) 0 s.len) (listed s.table) s.depth s.table.limit c.args.name.0 c.in_err-row.field-0.0 c.in_err-row.ensures c.from_residual.result c.from_residual.ensures.1
 
 pub returns : goal.returns
 returns c =

@@ -2,11 +2,8 @@ use Rattle.std.proofs.Common.{◌<◌, vec_items, refl, arith}
 use Rattle.linked.proofs.Stores.{nodes_of}
 use Rattle.linked.proofs.Calls.{fixed_same, pop_somehow, pop_small, pop_owed, pop_means, pop_beyond}
 use Rattle.linked.proofs.Moving.{read_node}
-use Rattle.linked.proofs.Stores.{in_nodes, within_len, top_in}
+use Rattle.linked.proofs.Stores.{in_nodes, top_in}
 use Rattle.linked.proofs.linked.methods.LinkedStore.pop.Goals as goal
-
-pub index-node-requires : goal.index-node-requires
-index-node-requires c = let s = c.args.self.now in let n = c.if-self-eq0.false in within_len s s.current.top (top_in s (omega arith))
 
 pub drop_top-requires : goal.drop_top-requires
 drop_top-requires c =

@@ -6,11 +6,11 @@ use Rattle.linked.proofs.Stores.{nodes_of, in_nodes, free_in}
 use Rattle.linked.proofs.Calls.{fixed_same, push_owed, push_means, push-beyond}
 use Rattle.linked.proofs.linked.methods.LinkedStore.push.Goals as goal
 
-pub returns-then-self : goal.returns-then-self
-returns-then-self c =
+pub returns-then-self-clause-call : goal.returns-then-self-clause-call
+returns-then-self-clause-call c =
     let s = c.args.self.now in
     let n = length-cells (nodes_of s) s.current.len s.current.top in
-    record { memory = refl; call = sym (pushed_full (meant s) c.args.cell (omega arith)) }
+    sym (pushed_full (meant s) c.args.cell (omega arith))
 
 pub push-self-requires : goal.push-self-requires
 push-self-requires c = let s = c.args.self.now in let a = in_nodes s s.pool.free (free_in s c.if-self.false) in let b = c.if-self.false in let d = s.flat in (a, omega arith)

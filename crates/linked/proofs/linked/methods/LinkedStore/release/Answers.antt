@@ -1,5 +1,4 @@
-use Rattle.std.proofs.Common.{Err, vec_items, refl, ap, ◌∙◌}
-use Rattle.std.proofs.lemmas.Result.{err_from_is_err_and}
+use Rattle.std.proofs.Common.{vec_items, ap, ◌∙◌}
 use Rattle.bottom.specs.Tables.{listed}
 use Rattle.linked.specs.Meant.{read_row}
 use Rattle.linked.proofs.Stores.{nodes_of}
@@ -10,15 +9,11 @@ use Rattle.linked.proofs.linked.methods.LinkedStore.release.Goals as goal
 pub invariant_of-self : goal.invariant_of-self
 invariant_of-self c = refused_owed c.args.self.now c.args.name.0 c.remove.new.self c.in_err-row.field-0.0 c.in_err-row.ensures.row c.in_err-row.ensures.rows c.in_err-row.ensures.limit
 
-pub returns-in_err-row : goal.returns-in_err-row
-returns-in_err-row c =
+pub returns-in_err-row-clause-call : goal.returns-in_err-row-clause-call
+returns-in_err-row-clause-call c =
     let s = c.args.self.now in
-    let p = err_from_is_err_and c.from_residual.result c.from_residual.ensures.1 in
-    record {
-      memory = fixed_same s (nodes_of s) _ c.in_err-row.ensures.limit refl;
-      call = ap (λ m. (c.from_residual.result, m)) (refused_means s c.args.name.0 c.remove.new.self c.in_err-row.field-0.0 c.in_err-row.ensures.row c.in_err-row.ensures.rows c.in_err-row.ensures.limit)
-          ∙ released_none (read_row (nodes_of s)) _ (listed s.table) s.depth s.table.limit c.args.name.0 c.in_err-row.field-0.0 c.in_err-row.ensures.row c.from_residual.result (p.1 ∙ ap Err p.2);
-    }
+    ap (λ m. (c.from_residual.result, m)) (refused_means s c.args.name.0 c.remove.new.self c.in_err-row.field-0.0 c.in_err-row.ensures.row c.in_err-row.ensures.rows c.in_err-row.ensures.limit)
+    ∙ released_none (read_row (nodes_of s)) _ (listed s.table) s.depth s.table.limit c.args.name.0 c.in_err-row.field-0.0 c.in_err-row.ensures.row c.from_residual.result c.from_residual.ensures.1
 
 pub let_go-requires : goal.let_go-requires
 let_go-requires c = let s = c.args.self.now in release_somehow s c.args.name.0 c.in_ok-row.row (is_held _ _ c.in_ok-row.ensures.row) c.remove.new.self c.in_ok-row.ensures.rows c.in_ok-row.ensures.limit

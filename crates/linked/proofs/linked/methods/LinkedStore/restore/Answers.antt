@@ -1,5 +1,4 @@
-use Rattle.std.proofs.Common.{drop, Err, vec_items, refl, ap, ◌∙◌}
-use Rattle.std.proofs.lemmas.Result.{err_from_is_err_and}
+use Rattle.std.proofs.Common.{drop, vec_items, refl, ap, ◌∙◌}
 use Rattle.bottom.specs.Tables.{listed}
 use Rattle.linked.specs.Meant.{size, read_row}
 use Rattle.linked.proofs.Stores.{nodes_of}
@@ -7,11 +6,10 @@ use Rattle.bottom.proofs.Answered.{is_held, restored_none}
 use Rattle.linked.proofs.Calls.{fixed_same, sharable, row-fit, restore_somehow, restore_owed, restore_means, restore_beyond, shared-beyond}
 use Rattle.linked.proofs.linked.methods.LinkedStore.restore.Goals as goal
 
-pub returns-in_err-row : goal.returns-in_err-row
-returns-in_err-row c =
+pub returns-in_err-row-clause-call : goal.returns-in_err-row-clause-call
+returns-in_err-row-clause-call c =
     let s = c.args.self.now in
-    let p = err_from_is_err_and c.from_residual.result c.from_residual.ensures.1 in
-    record { memory = refl; call = restored_none (read_row (nodes_of s)) _ (listed s.table) s.depth s.table.limit c.args.name.0 c.in_err-row.field-0.0 c.in_err-row.ensures c.from_residual.result (p.1 ∙ ap Err p.2) }
+    restored_none (read_row (nodes_of s)) _ (listed s.table) s.depth s.table.limit c.args.name.0 c.in_err-row.field-0.0 c.in_err-row.ensures c.from_residual.result c.from_residual.ensures.1
 
 pub share-requires : goal.share-requires
 share-requires c l = let s = c.args.self.now in sharable s c.in_ok-row.row (row-fit s c.args.name.0 c.in_ok-row.row (is_held _ _ c.in_ok-row.ensures)) l

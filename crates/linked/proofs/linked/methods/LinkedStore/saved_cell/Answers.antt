@@ -1,5 +1,4 @@
-use Rattle.std.proofs.Common.{Err, ap, ◌∙◌}
-use Rattle.std.proofs.lemmas.Result.{err_from_is_err_and}
+use Rattle.std.proofs.Common.{◌∙◌}
 use Rattle.bottom.specs.Tables.{listed}
 use Rattle.linked.specs.Chains.{cells}
 use Rattle.linked.specs.Meant.{size, read_row}
@@ -12,8 +11,7 @@ use Rattle.linked.proofs.linked.methods.LinkedStore.saved_cell.Goals as goal
 pub returns-in_err-row : goal.returns-in_err-row
 returns-in_err-row c =
     let s = c.args.self.now in
-    let p = err_from_is_err_and c.from_residual.result c.from_residual.ensures.1 in
-    cell_none (read_row (nodes_of s)) (cells (nodes_of s) s.current.top s.current.len) (listed s.table) s.depth s.table.limit c.args.name.0 c.in_err-row.field-0.0 c.in_err-row.ensures c.args.index c.from_residual.result (p.1 ∙ ap Err p.2)
+    cell_none (read_row (nodes_of s)) (cells (nodes_of s) s.current.top s.current.len) (listed s.table) s.depth s.table.limit c.args.name.0 c.in_err-row.field-0.0 c.in_err-row.ensures c.args.index c.from_residual.result c.from_residual.ensures.1
 
 pub cell_of-requires : goal.cell_of-requires
 cell_of-requires c = let s = c.args.self.now in let r = c.in_ok-row.row in ends_to (nodes_of s) (size s) r.len r.at (row-fit s c.args.name.0 r (is_held _ _ c.in_ok-row.ensures)).1
