@@ -68,13 +68,14 @@ impl Pool {
         requires small { 1 < list.len → (node_at self.old.nodes.items (node_at self.old.nodes.items list.top).link).holders + 1 < 2 ^ 32 }
         ensures { TopDropped self.old.nodes.items self.new.nodes.items self.old.free self.new.free list.top list.len }
     {
-        let node = self.nodes[list.top as usize];
+        let node = &mut self.nodes[list.top as usize];
         if node.holders > 1 {
-            self.nodes[list.top as usize].holders -= 1;
-            self.share(Chain {
+            node.holders -= 1;
+            let rest = Chain {
                 top: node.link,
                 len: list.len - 1,
-            });
+            };
+            self.share(rest);
             return;
         }
         self.free_node(list.top);
@@ -87,13 +88,14 @@ impl Pool {
     {
         let mut at = list.top;
         for _ in 0..list.len {
-            let node = self.nodes[at as usize];
+            let node = &mut self.nodes[at as usize];
             if node.holders > 1 {
-                self.nodes[at as usize].holders -= 1;
+                node.holders -= 1;
                 return;
             }
+            let below = node.link;
             self.free_node(at);
-            at = node.link;
+            at = below;
         }
     }
 

@@ -1,10 +1,10 @@
-use Rattle.std.proofs.Common.{◌≡◌, ℕ, ◌-◌, ◌<◌, ◌≤◌, List, length, get_or, set, vec_items, sym, refl, ap, subst, arith}
+use Rattle.std.proofs.Common.{◌≡◌, ℕ, ◌-◌, ◌<◌, ◌≤◌, List, length, get_or, set, vec_items, sym, refl, ap, ◌∙◌, subst, arith}
 use Rattle.bottom.specs.Rows.{bit}
 use Rattle.bottom.proofs.Rows.{bit_other}
 use Rattle.linked.specs.declared.node.Node.{Node}
 use Rattle.linked.specs.Chains.{node_at, with_top, Ends}
 use Rattle.linked.specs.Moves.{Holds, HoldsSomehow, Moved, recounted}
-use Rattle.linked.proofs.Moving.{top_within, read_node, moved_both, moved_for, leave_read, rid_read, rid_read_holds}
+use Rattle.linked.proofs.Moving.{top_within, read_node, set_read, moved_both, moved_for, leave_read, rid_read, rid_read_holds}
 use Rattle.linked.proofs.pool.Pool.let_go.Goals as goal
 
 -- what holds of the nodes where a turn begins
@@ -47,15 +47,8 @@ module _ (ns ms : List Node) (f t n g u m : ℕ) (H : HoldsSomehow ns f t n) (go
     turned one ks h k ks_is h_is k_is =
         subst (λ xs. Going ns xs f t n h r.link k) (sym ks_is) (subst (λ x. Going ns freed f t n x r.link k) (sym h_is) (subst (λ x. Going ns freed f t n u r.link x) (sym k_is) (next one)))
 
-pub index-node-requires : goal.index-node-requires
-index-node-requires c =
-    let some : 0 < c.args.list.len - c.loop.counter = let t = c.loop-test.true in omega arith in
-    let a = in_nodes (vec_items c.args.self.now.nodes) (vec_items c.loop.self.nodes) c.args.self.now.free c.args.list.top c.args.list.len c.loop.self.free c.loop.at (c.args.list.len - c.loop.counter) c.requires c.loop.invariant some in
-    let b = c.loop.self.nodes.ok.0 in
-    omega arith
-
-pub index_mut-requires : goal.index_mut-requires
-index_mut-requires c =
+pub index_mut-node-requires : goal.index_mut-node-requires
+index_mut-node-requires c =
     let some : 0 < c.args.list.len - c.loop.counter = let t = c.loop-test.true in omega arith in
     let a = in_nodes (vec_items c.args.self.now.nodes) (vec_items c.loop.self.nodes) c.args.self.now.free c.args.list.top c.args.list.len c.loop.self.free c.loop.at (c.args.list.len - c.loop.counter) c.requires c.loop.invariant some in
     let b = c.loop.self.nodes.ok.0 in
@@ -64,28 +57,22 @@ index_mut-requires c =
 pub free_node-requires : goal.free_node-requires
 free_node-requires c =
     let some : 0 < c.args.list.len - c.loop.counter = let t = c.loop-test.true in omega arith in
-    in_nodes (vec_items c.args.self.now.nodes) (vec_items c.loop.self.nodes) c.args.self.now.free c.args.list.top c.args.list.len c.loop.self.free c.loop.at (c.args.list.len - c.loop.counter) c.requires c.loop.invariant some
-
--- a node that was read twice
-again : (ms : List Node) (u : ℕ) (r x : Node) → u < length ms → r ≡ get_or ms u r → x ≡ get_or ms u x → 1 < r.holders → 1 < x.holders
-again ms u r x l e d two = let h = ap (λ (y : Node). y.holders) (read_node ms u r l e) in let k = ap (λ (y : Node). y.holders) (read_node ms u x l d) in omega arith
-
-pub overflow_sub-index_mut : goal.overflow_sub-index_mut
-overflow_sub-index_mut c =
-    let some : 0 < c.args.list.len - c.loop.counter = let t = c.loop-test.true in omega arith in
-    let two = again (vec_items c.loop.self.nodes) c.loop.at c.index-node.result.now c.index_mut.result.now (in_nodes (vec_items c.args.self.now.nodes) (vec_items c.loop.self.nodes) c.args.self.now.free c.args.list.top c.args.list.len c.loop.self.free c.loop.at (c.args.list.len - c.loop.counter) c.requires c.loop.invariant some) c.index-node.ensures c.index_mut.ensures.value c.if-node-gt1.true in
-    omega arith
+    let l = in_nodes (vec_items c.args.self.now.nodes) (vec_items c.loop.self.nodes) c.args.self.now.free c.args.list.top c.args.list.len c.loop.self.free c.loop.at (c.args.list.len - c.loop.counter) c.requires c.loop.invariant some in
+    subst (λ ns. c.loop.at < length ns) (sym (set_read (vec_items c.loop.self.nodes) c.loop.at c.index_mut-node.result.now c.index_mut-node.ensures.value)) l
 
 pub returns-then-node-gt1 : goal.returns-then-node-gt1
 returns-then-node-gt1 c =
     let some : 0 < c.args.list.len - c.loop.counter = let t = c.loop-test.true in omega arith in
-    left_here (vec_items c.args.self.now.nodes) (vec_items c.loop.self.nodes) c.args.self.now.free c.args.list.top c.args.list.len c.loop.self.free c.loop.at (c.args.list.len - c.loop.counter) c.requires c.loop.invariant some c.index_mut.result.now c.index_mut.ensures.value
-    (again (vec_items c.loop.self.nodes) c.loop.at c.index-node.result.now c.index_mut.result.now (in_nodes (vec_items c.args.self.now.nodes) (vec_items c.loop.self.nodes) c.args.self.now.free c.args.list.top c.args.list.len c.loop.self.free c.loop.at (c.args.list.len - c.loop.counter) c.requires c.loop.invariant some) c.index-node.ensures c.index_mut.ensures.value c.if-node-gt1.true)
+    left_here (vec_items c.args.self.now.nodes) (vec_items c.loop.self.nodes) c.args.self.now.free c.args.list.top c.args.list.len c.loop.self.free c.loop.at (c.args.list.len - c.loop.counter) c.requires c.loop.invariant some c.index_mut-node.result.now c.index_mut-node.ensures.value c.if-node-gt1.true
 
 pub loop-preserved : goal.loop-preserved
 loop-preserved c =
     let some : 0 < c.args.list.len - c.loop.counter = let t = c.loop-test.true in omega arith in
-    turned (vec_items c.args.self.now.nodes) (vec_items c.loop.self.nodes) c.args.self.now.free c.args.list.top c.args.list.len c.loop.self.free c.loop.at (c.args.list.len - c.loop.counter) c.requires c.loop.invariant some c.index-node.result.now c.index-node.ensures c.if-node-gt1.false _ _ _ c.free_node.ensures.nodes c.free_node.ensures.free (omega arith)
+    let ms = vec_items c.loop.self.nodes in
+    let u : ℕ = c.loop.at in
+    let same = set_read ms u c.index_mut-node.result.now c.index_mut-node.ensures.value in
+    turned (vec_items c.args.self.now.nodes) (vec_items c.loop.self.nodes) c.args.self.now.free c.args.list.top c.args.list.len c.loop.self.free c.loop.at (c.args.list.len - c.loop.counter) c.requires c.loop.invariant some c.index_mut-node.result.now c.index_mut-node.ensures.value c.if-node-gt1.false _ _ _
+    (c.free_node.ensures.nodes ∙ ap (λ ns. set ns u (record { cell = (node_at ns u).cell; link = c.loop.self.free; holders = 0 })) same) c.free_node.ensures.free (omega arith)
 
 -- an empty list has no top
 pub returns : goal.returns
