@@ -32,13 +32,21 @@ pub fixed_same : (s : Linked) (ms : List Node) (limit : ℕ) → limit ≡ s.tab
     → ◌≡◌ {A = ℕ × List Node} (cells_needed s.depth limit, drop (cells_needed s.depth limit) ms) (size s, drop (size s) (nodes_of s))
 fixed_same s ms limit e d = ap (λ m. (cells_needed s.depth m, drop (cells_needed s.depth m) ms)) e ∙ ap (λ xs. (size s, xs)) d
 
+-- the list of a row
+abbrev pub chain_of : Row → Chain
+chain_of r = record { top = r.at; len = r.len }
+
 -- a list that may be shared: its top is there, and has room for a holder more
-pub sharable : (s : Linked) (r : Row) → Fits (nodes_of s) (size s) s.depth r → 0 < r.len → (r.at < length (nodes_of s)) × ((node_at (nodes_of s) r.at).holders + 1 < 2 ^ 32)
-sharable s r fit l = let w = ends-within (nodes_of s) (size s) r.at r.len l fit.1 in (in_nodes s r.at w, holders_fit s r.at w)
+sharable_row : (s : Linked) (r : Row) → Fits (nodes_of s) (size s) s.depth r → 0 < r.len → (r.at < length (nodes_of s)) × ((node_at (nodes_of s) r.at).holders + 1 < 2 ^ 32)
+sharable_row s r fit l = let w = ends-within (nodes_of s) (size s) r.at r.len l fit.1 in (in_nodes s r.at w, holders_fit s r.at w)
+
+-- told of the list
+pub sharable : (s : Linked) (r : Row) → Fits (nodes_of s) (size s) s.depth r → (l : Chain) → l ≡ chain_of r → 0 < l.len → (l.top < length (nodes_of s)) × ((node_at (nodes_of s) l.top).holders + 1 < 2 ^ 32)
+sharable s r fit l on = subst (λ (y : Chain). 0 < y.len → (y.top < length (nodes_of s)) × ((node_at (nodes_of s) y.top).holders + 1 < 2 ^ 32)) (sym on) (sharable_row s r fit)
 
 -- sharing a list changes nothing past the need
-pub shared-beyond : (s : Linked) (r : Row) → Fits (nodes_of s) (size s) s.depth r → drop (size s) (shared (nodes_of s) r.at r.len) ≡ drop (size s) (nodes_of s)
-shared-beyond s r fit = by r.len fit.1
+pub shared-beyond : (s : Linked) (r : Row) → Fits (nodes_of s) (size s) s.depth r → (l : Chain) → l ≡ chain_of r → drop (size s) (shared (nodes_of s) l.top l.len) ≡ drop (size s) (nodes_of s)
+shared-beyond s r fit l on = ap (λ (y : Chain). drop (size s) (shared (nodes_of s) y.top y.len)) on ∙ by r.len fit.1
   where
     by : (n : ℕ) → Ends (nodes_of s) (size s) r.at n → drop (size s) (shared (nodes_of s) r.at n) ≡ drop (size s) (nodes_of s)
     by zero e = refl
@@ -188,7 +196,7 @@ module _ (s : Linked) (t : Table) (n : ℕ) (vs : List Node) (f : ℕ) (sh : vs 
         ∙ ap (λ m. (Ok tt, m)) (meant_alike (nodes_of s) _ (list_at s.current.top s.current.len) _ (listed t) s.depth s.table.limit t.limit after.1 rows limit)
         ∙ saved-row (read_row (nodes_of s)) (cells (nodes_of s) s.current.top s.current.len) (listed s.table) s.depth s.table.limit new_row (Ok tt) _ refl (ap (λ rs. (Ok tt, rs)) (sym rows) ∙ answer)
 
--- a row has the name
+-- a row has the name, and its list is l
 module _ (s : Linked) (n : ℕ) (r : Row) (found : row_under (listed s.table) n ≡ Some r) where
   -- its list
   abbrev here : Row
@@ -207,7 +215,7 @@ module _ (s : Linked) (n : ℕ) (r : Row) (found : row_under (listed s.table) n 
   others-fit = all_without _ (listed s.table) n (facts_of s).fitting.1
 
   -- its list becomes current, and stays saved
-  module _ (vs : List Node) (f : ℕ) (sh : vs ≡ shared (nodes_of s) r.at r.len) (fr : f ≡ s.pool.free) where
+  module _ (l : Chain) (on : l ≡ chain_of r) (vs : List Node) (f : ℕ) (sh : vs ≡ shared (nodes_of s) l.top l.len) (fr : f ≡ s.pool.free) where
     -- all lists, its own once more
     abbrev three : List Row
     three = here ∷ lists_of s
@@ -216,7 +224,7 @@ module _ (s : Linked) (n : ℕ) (r : Row) (found : row_under (listed s.table) n 
     both : Facts vs (size s) s.depth f three × All (Alike (nodes_of s) vs) three
     both =
         subst (λ g. Facts vs (size s) s.depth g three × All (Alike (nodes_of s) vs) three) (sym fr)
-        (subst (λ ms. Facts ms (size s) s.depth s.pool.free three × All (Alike (nodes_of s) ms) three) (sym sh)
+        (subst (λ ms. Facts ms (size s) s.depth s.pool.free three × All (Alike (nodes_of s) ms) three) (sym (sh ∙ ap (λ (y : Chain). shared (nodes_of s) y.top y.len) on))
         (share_facts (nodes_of s) (size s) s.depth s.pool.free (lists_of s) (facts_of s) here row-fit
         (all_under _ (listed s.table) n r found (tops_rooted (nodes_of s) (size s) s.depth s.pool.free (lists_of s) (facts_of s)).1) three (λ k. refl) (row-fit, (facts_of s).fitting)))
 
@@ -240,13 +248,14 @@ module _ (s : Linked) (n : ℕ) (r : Row) (found : row_under (listed s.table) n 
       restored_moved = all (size s) s.depth (places (here ∷ listed s.table)) restore_holds
 
       -- what the fields owe then
-      pub restore_owed : Owed ms s.table s.depth g r.at r.len
-      restore_owed = owed ms s.table s.depth g r.at r.len (size s) (listed s.table) refl refl s.flat (settled vs ms (size s) s.depth f g three (here ∷ listed s.table) both.0 restored_moved two_fit)
+      pub restore_owed : Owed ms s.table s.depth g l.top l.len
+      restore_owed = subst (λ (y : Chain). Owed ms s.table s.depth g y.top y.len) (sym on) (owed ms s.table s.depth g r.at r.len (size s) (listed s.table) refl refl s.flat (settled vs ms (size s) s.depth f g three (here ∷ listed s.table) both.0 restored_moved two_fit))
 
       -- so the store means what a restore makes of it
-      pub restore_means : (Ok tt, by_rows (read_row ms) (cells ms r.at r.len) (listed s.table) s.depth s.table.limit) ≡ restored (meant s) n
+      pub restore_means : (Ok tt, by_rows (read_row ms) (cells ms l.top l.len) (listed s.table) s.depth s.table.limit) ≡ restored (meant s) n
       restore_means =
-          ap (λ m. (Ok tt, m))
+          ap (λ (y : Chain). (Ok tt, by_rows (read_row ms) (cells ms y.top y.len) (listed s.table) s.depth s.table.limit)) on
+          ∙ ap (λ m. (Ok tt, m))
           (meant_alike (nodes_of s) ms here (listed s.table) (listed s.table) s.depth s.table.limit s.table.limit
           (alike_both (nodes_of s) vs ms (here ∷ listed s.table) (both.1.0, both.1.1.1) (settled_alike vs ms (size s) s.depth f g three (here ∷ listed s.table) both.0 restored_moved two_fit)) refl refl)
           ∙ restored_some (read_row (nodes_of s)) (cells (nodes_of s) s.current.top s.current.len) (listed s.table) s.depth s.table.limit n r found
@@ -273,13 +282,14 @@ module _ (s : Linked) (n : ℕ) (r : Row) (found : row_under (listed s.table) n 
       taken_moved = all (size s) s.depth (places (here ∷ others)) take-holds
 
       -- what the fields owe then
-      pub take_owed : Owed ms t s.depth g r.at r.len
-      take_owed = owed ms t s.depth g r.at r.len (size s) others rows (ap (cells_needed s.depth) limit) s.flat (settled (nodes_of s) ms (size s) s.depth s.pool.free g (lists_of s) (here ∷ others) (facts_of s) taken_moved (row-fit, others-fit))
+      pub take_owed : (l : Chain) → l ≡ chain_of r → Owed ms t s.depth g l.top l.len
+      take_owed l on = subst (λ (y : Chain). Owed ms t s.depth g y.top y.len) (sym on) (owed ms t s.depth g r.at r.len (size s) others rows (ap (cells_needed s.depth) limit) s.flat (settled (nodes_of s) ms (size s) s.depth s.pool.free g (lists_of s) (here ∷ others) (facts_of s) taken_moved (row-fit, others-fit)))
 
       -- so the store means what a take makes of it
-      pub take_means : (Ok tt, by_rows (read_row ms) (cells ms r.at r.len) (listed t) s.depth t.limit) ≡ taken (meant s) n
-      take_means =
-          ap (λ m. (Ok tt, m)) (meant_alike (nodes_of s) ms here others (listed t) s.depth s.table.limit t.limit
+      pub take_means : (l : Chain) → l ≡ chain_of r → (Ok tt, by_rows (read_row ms) (cells ms l.top l.len) (listed t) s.depth t.limit) ≡ taken (meant s) n
+      take_means l on =
+          ap (λ (y : Chain). (Ok tt, by_rows (read_row ms) (cells ms y.top y.len) (listed t) s.depth t.limit)) on
+          ∙ ap (λ m. (Ok tt, m)) (meant_alike (nodes_of s) ms here others (listed t) s.depth s.table.limit t.limit
           (settled_alike (nodes_of s) ms (size s) s.depth s.pool.free g (lists_of s) (here ∷ others) (facts_of s) taken_moved (row-fit, others-fit)) rows limit)
           ∙ taken_some (read_row (nodes_of s)) (cells (nodes_of s) s.current.top s.current.len) (listed s.table) s.depth s.table.limit n r found
 
@@ -298,13 +308,13 @@ module _ (s : Linked) (n : ℕ) (r : Row) (found : row_under (listed s.table) n 
         (λ k. (let e = places-without (listed s.table) n r k found in let g : bit s.current.top k + places (listed s.table) k ≡ bit r.at k + (bit s.current.top k + places others k) = omega arith in g))
 
     -- as a call wants to know it
-    pub release_somehow : HoldsSomehow (nodes_of s) s.pool.free r.at r.len
-    release_somehow = record { size = size s; depth = s.depth; others = places stay; holds = release-holds }
+    pub release_somehow : (l : Chain) → l ≡ chain_of r → HoldsSomehow (nodes_of s) s.pool.free l.top l.len
+    release_somehow l on = subst (λ (y : Chain). HoldsSomehow (nodes_of s) s.pool.free y.top y.len) (sym on) (record { size = size s; depth = s.depth; others = places stay; holds = release-holds })
 
-    module _ (ms : List Node) (g : ℕ) (all : LetGo (nodes_of s) ms s.pool.free g r.at r.len) where
+    module _ (l : Chain) (on : l ≡ chain_of r) (ms : List Node) (g : ℕ) (all : LetGo (nodes_of s) ms s.pool.free g l.top l.len) where
       -- the lists then
       released_moved : Moved (nodes_of s) ms (size s) s.depth g (places stay) (places stay)
-      released_moved = all (size s) s.depth (places stay) release-holds
+      released_moved = subst (λ (y : Chain). LetGo (nodes_of s) ms s.pool.free g y.top y.len) on all (size s) s.depth (places stay) release-holds
 
       -- what the fields owe then
       pub release_owed : Owed ms t s.depth g s.current.top s.current.len

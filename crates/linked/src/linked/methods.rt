@@ -103,10 +103,7 @@ impl Store for Linked {
 
     fn restore(&mut self, name: Name) -> Result<(), Refusal> {
         let row = self.table.get(name)?;
-        let list = Chain {
-            top: row.at,
-            len: row.len,
-        };
+        let list = Chain::from(row);
         self.pool.share(list);
         self.pool.let_go(self.current);
         self.current = list;
@@ -116,19 +113,13 @@ impl Store for Linked {
     fn take(&mut self, name: Name) -> Result<(), Refusal> {
         let row = self.table.remove(name)?;
         self.pool.let_go(self.current);
-        self.current = Chain {
-            top: row.at,
-            len: row.len,
-        };
+        self.current = Chain::from(row);
         Ok(())
     }
 
     fn release(&mut self, name: Name) -> Result<(), Refusal> {
         let row = self.table.remove(name)?;
-        let list = Chain {
-            top: row.at,
-            len: row.len,
-        };
+        let list = Chain::from(row);
         self.pool.let_go(list);
         Ok(())
     }
@@ -144,10 +135,7 @@ impl Store for Linked {
 
     fn saved_cell(&self, name: Name, index: u32) -> Result<Cell, Refusal> {
         let row = self.table.get(name)?;
-        let list = Chain {
-            top: row.at,
-            len: row.len,
-        };
+        let list = Chain::from(row);
         self.cell_of(list, index)
     }
 

@@ -1,4 +1,4 @@
-use Rattle.std.proofs.Common.{vec_items}
+use Rattle.std.proofs.Common.{vec_items, refl}
 use Rattle.bottom.proofs.Answered.{handed_on}
 use Rattle.linked.proofs.Stores.{facts_of}
 use Rattle.bottom.specs.Tables.{listed}
@@ -16,7 +16,7 @@ returns-in_err-add-clause-call c =
     save_refused s c.add.new.self c.args.name.0 c.from_residual.result c.in_err-add.field-0.0 (handed_on _ _ c.from_residual.ensures.1) c.in_err-add.ensures.rows c.add.ensures.limit
 
 pub share-requires : goal.share-requires
-share-requires c l = let s = c.args.self.now in sharable s (list_at s.current.top s.current.len) (facts_of s).fitting.0 l
+share-requires c = let s = c.args.self.now in sharable s (list_at s.current.top s.current.len) (facts_of s).fitting.0 s.current refl
 
 pub invariant_of-self-2 : goal.invariant_of-self-2
 invariant_of-self-2 c =

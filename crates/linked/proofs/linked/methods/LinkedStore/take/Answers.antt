@@ -19,12 +19,12 @@ pub let_go-requires : goal.let_go-requires
 let_go-requires c = let s = c.args.self.now in take_somehow s c.args.name.0 c.in_ok-row.row (is_held _ _ c.in_ok-row.ensures.row) c.remove.new.self c.in_ok-row.ensures.rows c.in_ok-row.ensures.limit
 
 pub invariant_of-self-2 : goal.invariant_of-self-2
-invariant_of-self-2 c = let s = c.args.self.now in take_owed s c.args.name.0 c.in_ok-row.row (is_held _ _ c.in_ok-row.ensures.row) c.remove.new.self c.in_ok-row.ensures.rows c.in_ok-row.ensures.limit (vec_items c.let_go.new.self.nodes) c.let_go.new.self.free c.let_go.ensures
+invariant_of-self-2 c = let s = c.args.self.now in take_owed s c.args.name.0 c.in_ok-row.row (is_held _ _ c.in_ok-row.ensures.row) c.remove.new.self c.in_ok-row.ensures.rows c.in_ok-row.ensures.limit (vec_items c.let_go.new.self.nodes) c.let_go.new.self.free c.let_go.ensures c.from-self.result c.from-self.ensures
 
 pub returns : goal.returns
 returns c =
     let s = c.args.self.now in
     record {
       memory = fixed_same s _ _ c.in_ok-row.ensures.limit (take_beyond s c.args.name.0 c.in_ok-row.row (is_held _ _ c.in_ok-row.ensures.row) c.remove.new.self c.in_ok-row.ensures.rows c.in_ok-row.ensures.limit (vec_items c.let_go.new.self.nodes) c.let_go.new.self.free c.let_go.ensures);
-      call = take_means s c.args.name.0 c.in_ok-row.row (is_held _ _ c.in_ok-row.ensures.row) c.remove.new.self c.in_ok-row.ensures.rows c.in_ok-row.ensures.limit (vec_items c.let_go.new.self.nodes) c.let_go.new.self.free c.let_go.ensures;
+      call = take_means s c.args.name.0 c.in_ok-row.row (is_held _ _ c.in_ok-row.ensures.row) c.remove.new.self c.in_ok-row.ensures.rows c.in_ok-row.ensures.limit (vec_items c.let_go.new.self.nodes) c.let_go.new.self.free c.let_go.ensures c.from-self.result c.from-self.ensures;
     }
