@@ -10,7 +10,7 @@ use Rattle.std.proofs.lemmas.List.{length-drop, length_push, map_push}
 use Rattle.std.proofs.lemmas.Option.{slice_get-get_or, slice_get_past}
 use Rattle.std.proofs.lemmas.Bool.{cases_order}
 use Rattle.store.specs.declared.refusal.Refusal.{Refusal}
-use Rattle.store.specs.Meaning.{pushed, popped, saved, released}
+use Rattle.store.specs.Meaning.{pushed, popped, saved, released, with_current}
 use Rattle.cell.specs.declared.cell.Cell.{Cell}
 use Rattle.bottom.specs.declared.row.Row.{Row}
 use Rattle.bottom.specs.declared.table.Table.{Table}
@@ -137,16 +137,15 @@ module _ (s : Copied) (r : Row) (fit : RowFits s.depth s.table.limit r) (vs : Li
   pub load_long : length vs ≡ length (words_of s)
   load_long = ap length is ∙ written-long (words_of s) from 0 r.len in_front enough
 
-  -- where the rows stay, the fields owe what they did
-  pub restore_owed : Owed (length vs) s.table s.free.items s.depth r.len
-  restore_owed =
+  -- the fields owe what they did
+  pub load_owed : Owed (length vs) s.table s.free.items s.depth r.len
+  load_owed =
       let long = load_long in
       owed (length vs) s.table s.free.items s.depth r.len s.table.limit _ _ refl refl refl (let a = s.room in omega arith) s.flat fit.0 s.whole s.apart (rows_fit s) (spares_fit s)
 
-  -- the meaning, with these rows
-  pub load_means : (rows ws : List Row) (limit : ℕ) → ws ≡ rows → limit ≡ s.table.limit
-      → by_rows (read_row vs s.depth) (cells vs 0 r.len) ws s.depth limit ≡ by_rows (read_row (words_of s) s.depth) (read_row (words_of s) s.depth r) rows s.depth s.table.limit
-  load_means rows ws limit e d = alike (read_row (words_of s) s.depth) (read_row vs s.depth) _ _ rows ws s.depth _ _ load_current (load_alike rows) e d
+  -- so the store means the same, with that list
+  pub load_means : by_rows (read_row vs s.depth) (cells vs 0 r.len) (listed s.table) s.depth s.table.limit ≡ with_current (meant s) (read_row (words_of s) s.depth r)
+  load_means = alike (read_row (words_of s) s.depth) (read_row vs s.depth) _ _ (listed s.table) (listed s.table) s.depth _ _ load_current (load_alike (listed s.table)) refl refl
 
 -- a row that is found
 pub row-fit : (s : Copied) (n : ℕ) (r : Row) → row_under (listed s.table) n ≡ Some r → RowFits s.depth s.table.limit r

@@ -1,9 +1,11 @@
 //! The calls on a copied stack.
-ghost use Rattle.std.specs.Prelude.{◌≡◌, ◌*◌, length};
+ghost use Rattle.std.specs.Prelude.{◌≡◌, ◌*◌, ◌<◌, ◌≤◌, length};
+ghost use Rattle.store.specs.Meaning.{with_current};
 ghost use Rattle.bottom.specs.Limits.{accepted, cells_needed, split_at};
 ghost use Rattle.bottom.specs.Meant.{opened};
 ghost use Rattle.cell.specs.Filled.{width};
 ghost use Rattle.copied.specs.Meant.{meant, fixed_of};
+ghost use Rattle.copied.specs.Parts.{read_row};
 
 use crate::copied::Copied;
 use crate::words;
@@ -43,6 +45,17 @@ impl Copied {
             len: _,
         } = self;
         memory
+    }
+
+    /// Makes the list of a row current.
+    fn load(&mut self, row: Row)
+        requires { (row.len ≤ self.old.depth) × (row.at < self.old.table.limit) }
+        ensures meaning { meant self.new ≡ with_current (meant self.old) (read_row self.old.memory.items self.old.depth row) }
+        ensures memory { fixed_of self.new ≡ fixed_of self.old }
+    {
+        let start = limits::cells_needed(self.depth, row.at);
+        words::copy_cells(self.memory.as_mut_slice(), start, 0, row.len as usize);
+        self.len = row.len;
     }
 }
 
@@ -85,18 +98,14 @@ impl Store for Copied {
 
     fn restore(&mut self, name: Name) -> Result<(), Refusal> {
         let row = self.table.get(name)?;
-        let start = limits::cells_needed(self.depth, row.at);
-        words::copy_cells(self.memory.as_mut_slice(), start, 0, row.len as usize);
-        self.len = row.len;
+        self.load(row);
         Ok(())
     }
 
     fn take(&mut self, name: Name) -> Result<(), Refusal> {
         let row = self.table.remove(name)?;
         self.free.push(row.at);
-        let start = limits::cells_needed(self.depth, row.at);
-        words::copy_cells(self.memory.as_mut_slice(), start, 0, row.len as usize);
-        self.len = row.len;
+        self.load(row);
         Ok(())
     }
 
