@@ -153,10 +153,6 @@ row-fit s n r found = all_under _ (listed s.table) n r found (rows_fit s)
 
 -- the row is gone then, and its place is free
 module _ (s : Copied) (n : ℕ) (r : Row) (found : row_under (listed s.table) n ≡ Some r) (t : Table) (rows : listed t ≡ rows_without (listed s.table) n) (limit : t.limit ≡ s.table.limit) where
-  -- not all places were free
-  pub gone_room : length s.free.items < 64
-  gone_room = let a = length-without (listed s.table) n r found in let b = s.whole in let d = s.table.few in omega arith
-
   -- what the fields owe then
   pub gone_owed : (long len : ℕ) (free : List ℕ) → free ≡ s.free.items ++ (r.at ∷ []) → long ≡ length (words_of s) → len ≤ s.depth → Owed long t free s.depth len
   gone_owed long len free frees same short =

@@ -1,5 +1,5 @@
 -- The facts of a linked store, from its fields and back to them.
-use Rattle.std.proofs.Common.{◌≡◌, ℕ, ◌+◌, ◌^◌, ◌<◌, ◌≤◌, true, List, ◌∷◌, length, vec_items, vec_len, sym, subst, arith}
+use Rattle.std.proofs.Common.{◌≡◌, ℕ, ◌+◌, ◌^◌, ◌<◌, ◌≤◌, true, List, ◌∷◌, length, vec_items, sym, subst, arith}
 use Rattle.std.proofs.lemmas.Bool.{and_parts, and_from, leb-true, le-leb}
 use Rattle.bottom.specs.declared.row.Row.{Row}
 use Rattle.bottom.specs.declared.table.Table.{Table}
@@ -68,10 +68,6 @@ owed ns t depth f top len p rs rows need flat F =
 -- a node that is needed is there
 pub in_nodes : (s : Linked) (k : ℕ) → k < size s → k < length (nodes_of s)
 in_nodes s k l = let b = s.room in omega arith
-
--- and in the memory
-pub within_len : (s : Linked) (k : ℕ) → k < size s → k < vec_len s.pool.nodes
-within_len s k l = let a = s.pool.nodes.ok.0 in let b = s.room in omega arith
 
 -- the top of a list that is not empty is needed
 pub top_in : (s : Linked) → 0 < s.current.len → s.current.top < size s
