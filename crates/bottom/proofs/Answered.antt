@@ -1,16 +1,32 @@
 -- What the calls that go by a name answer and leave, in a store whose saved lists are read from its rows.
 use Rattle.std.proofs.Common.{◌≡◌, ℕ, Bool, true, false, cond, eqb, leb, List, [], ◌∷◌, ◌++◌, map, length, Some, None, Ok, Err, Option, Result, sym, refl, ap, ◌∙◌, arith}
-use Rattle.std.specs.Option.{option_map}
+use Rattle.std.specs.Option.{option_map, ok_or}
 use Rattle.std.specs.List.{AllByRecursion as All}
 use Rattle.std.proofs.ByRecursion.{All-weaker}
 use Rattle.std.proofs.lemmas.List.{map_push, length-map}
+use Rattle.std.specs.Result.{IsErrAnd}
+use Rattle.std.proofs.lemmas.Result.{err_from_is_err_and}
 use Rattle.store.specs.declared.refusal.Refusal.{Refusal}
 use Rattle.store.specs.declared.refusal.Refusal.TheVariants.{HeldFull, NameTaken, NotHeld}
-use Rattle.store.specs.Meaning.{Meaning, Held, Outcome, saved_under, without, saved, saved_by, restored, restored_by, taken, taken_by, released, released_by, saved_length, length_by, saved_cell_in, cell_by, with_held}
+use Rattle.store.specs.Meaning.{Meaning, Held, Outcome, saved_under, without, saved, saved_by, restored, restored_by, taken, taken_by, released, released_by, saved_length, length_by, saved_cell_in, cell_by, cell_in, with_held}
 use Rattle.bottom.specs.declared.row.Row.{Row}
 use Rattle.bottom.specs.Rows.{row_under, rows_without, added, added_by}
 use Rattle.bottom.specs.Meant.{pair_by, bottom, by_rows}
 use Rattle.bottom.proofs.Rows.{map_alike}
+
+-- a refusal that was handed on
+pub handed_on : {B : Type 0} (a : Result B Refusal) (x : Refusal) → IsErrAnd a (λ y. y ≡ x) → a ≡ Err x
+handed_on a x h = let p = err_from_is_err_and a h in p.1 ∙ ap Err p.2
+
+-- what a table's refusal says
+pub not_held : (o : Option Row) (x : Refusal) → Err x ≡ ok_or o NotHeld → (o ≡ None) × (x ≡ NotHeld)
+not_held None x e = (refl, let q : x ≡ NotHeld = cc in q)
+not_held (Some r) x e = absurd (let z : ◌≡◌ {A = ℕ} 0 1 = cc in let never : ⊥ = omega arith in never)
+
+-- and its row
+pub is_held : (o : Option Row) (r : Row) → Ok r ≡ ok_or o NotHeld → o ≡ Some r
+is_held None r e = absurd (let z : ◌≡◌ {A = ℕ} 0 1 = cc in let never : ⊥ = omega arith in never)
+is_held (Some s) r e = let q : s ≡ r = cc in ap Some q
 
 module _ {A : Type 0} (read : Row → List A) where
   -- a lookup among the pairs is one among the rows
@@ -39,14 +55,24 @@ module _ {A : Type 0} (read : Row → List A) where
     under_is n o e = under rs n ∙ ap (option_map read) e
 
     -- the answers where a name is not held
-    pub restored_none : (n : ℕ) → row_under rs n ≡ None → (Err NotHeld, meant) ≡ restored meant n
-    restored_none n e = sym (ap (restored_by meant) (under_is n None e))
+    module _ (n : ℕ) (x : Refusal) (none : Err x ≡ ok_or (row_under rs n) NotHeld) where
+      refused : (row_under rs n ≡ None) × (x ≡ NotHeld)
+      refused = not_held (row_under rs n) x none
 
-    pub taken_none : (n : ℕ) → row_under rs n ≡ None → (Err NotHeld, meant) ≡ taken meant n
-    taken_none n e = sym (ap (taken_by meant n) (under_is n None e))
+      pub restored_none : (a : Result (Unit {0}) Refusal) → IsErrAnd a (λ y. y ≡ x) → (a, meant) ≡ restored meant n
+      restored_none a h = ap (λ b. (b, meant)) (handed_on a x h ∙ ap Err refused.1) ∙ sym (ap (restored_by meant) (under_is n None refused.0))
 
-    pub released_none : (n : ℕ) → row_under rs n ≡ None → (Err NotHeld, meant) ≡ released meant n
-    released_none n e = sym (ap (released_by meant n) (under_is n None e))
+      pub taken_none : (a : Result (Unit {0}) Refusal) → IsErrAnd a (λ y. y ≡ x) → (a, meant) ≡ taken meant n
+      taken_none a h = ap (λ b. (b, meant)) (handed_on a x h ∙ ap Err refused.1) ∙ sym (ap (taken_by meant n) (under_is n None refused.0))
+
+      pub released_none : (a : Result (Unit {0}) Refusal) → IsErrAnd a (λ y. y ≡ x) → (a, meant) ≡ released meant n
+      released_none a h = ap (λ b. (b, meant)) (handed_on a x h ∙ ap Err refused.1) ∙ sym (ap (released_by meant n) (under_is n None refused.0))
+
+      pub length_none : (a : Result ℕ Refusal) → IsErrAnd a (λ y. y ≡ x) → a ≡ saved_length meant n
+      length_none a h = handed_on a x h ∙ ap Err refused.1 ∙ sym (ap length_by (under_is n None refused.0))
+
+      pub cell_none : (i : ℕ) (a : Result A Refusal) → IsErrAnd a (λ y. y ≡ x) → a ≡ saved_cell_in meant n i
+      cell_none i a h = handed_on a x h ∙ ap Err refused.1 ∙ sym (ap (λ p. cell_by p i) (under_is n None refused.0))
 
     -- the answers where a row has the name
     pub restored_some : (n : ℕ) (r : Row) → row_under rs n ≡ Some r → (Ok tt, by_rows read (read r) rs depth limit) ≡ restored meant n
@@ -62,11 +88,11 @@ module _ {A : Type 0} (read : Row → List A) where
         ap (λ hs. (Ok tt, bottom current hs depth limit)) (sym (without-row rs n))
         ∙ sym (ap (released_by meant n) (under_is n (Some r) e))
 
-    pub length_of : (n : ℕ) (o : Option Row) → row_under rs n ≡ o → length_by (option_map read o) ≡ saved_length meant n
-    length_of n o e = sym (ap length_by (under_is n o e))
+    pub length_some : (n : ℕ) (r : Row) → row_under rs n ≡ Some r → Ok (length (read r)) ≡ saved_length meant n
+    length_some n r e = sym (ap length_by (under_is n (Some r) e))
 
-    pub cell_of : (n i : ℕ) (o : Option Row) → row_under rs n ≡ o → cell_by (option_map read o) i ≡ saved_cell_in meant n i
-    cell_of n i o e = sym (ap (λ p. cell_by p i) (under_is n o e))
+    pub cell_some : (n i : ℕ) (r : Row) → row_under rs n ≡ Some r → cell_in (read r) i ≡ saved_cell_in meant n i
+    cell_some n i r e = sym (ap (λ p. cell_by p i) (under_is n (Some r) e))
 
     -- the answer of a save: the new row's list is the current one
     pub saved-row : (r : Row) (a : Result (Unit {0}) Refusal) (ws : List Row) → read r ≡ current → (a, ws) ≡ added limit rs r → (a, by_rows read current ws depth limit) ≡ saved meant r.name.0

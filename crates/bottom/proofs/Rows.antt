@@ -1,11 +1,11 @@
 -- Laws of rows: where a name is found, what adding and removing a row does to the places, and tests that every row passes.
-use Rattle.std.proofs.Common.{◌≡◌, ℕ, suc, ◌+◌, ◌<◌, ◌≤◌, Bool, true, false, cond, eqb, leb, ◌≢◌, List, [], ◌∷◌, ◌++◌, map, length, get_or, take, drop, Some, None, Ok, Err, Option, Result, refl, ap, ◌∙◌, subst, ⊎_elim, arith}
-use Rattle.std.specs.List.{AllByRecursion as All}
+use Rattle.std.proofs.Common.{◌≡◌, ℕ, suc, ◌+◌, ◌<◌, ◌≤◌, Bool, true, false, cond, eqb, leb, ◌==◌, ◌≢◌, List, [], ◌∷◌, ◌++◌, map, length, get_or, take, drop, Some, None, Ok, Err, Option, Result, refl, ap, ◌∙◌, subst, ⊎_elim, arith}
+use Rattle.std.specs.List.{position_from, AllByRecursion as All}
 use Rattle.std.proofs.lemmas.Bool.{cases_eq, eq-eqb, ne_eqb, cond_both, cond-true, cond-false, and_parts, and_from, leb-false}
 use Rattle.store.specs.declared.refusal.Refusal.{Refusal}
 use Rattle.store.specs.declared.refusal.Refusal.TheVariants.{HeldFull, NameTaken}
 use Rattle.bottom.specs.declared.row.Row.{Row}
-use Rattle.bottom.specs.Rows.{blank, row_under, rows_without, index_from, added, added_by, bit, places, every}
+use Rattle.bottom.specs.Rows.{blank, row_under, rows_without, added, added_by, bit, places, every}
 
 -- the bit of a number at itself
 pub bit-same : (x k : ℕ) → x ≡ k → bit x k ≡ 1
@@ -29,9 +29,9 @@ Located a rs u w None = (u ≡ None) × (w ≡ rs)
 Located a rs u w (Some i) = (j : ℕ) × ((i ≡ a + j) × ((j < length rs) × ((u ≡ Some (get_or rs j (blank 0))) × (w ≡ take j rs ++ drop (suc j) rs))))
 
 -- the index says so
-pub located : (a : ℕ) (rs : List Row) (n : ℕ) → Located a rs (row_under rs n) (rows_without rs n) (index_from a rs n)
+pub located : (a : ℕ) (rs : List Row) (n : ℕ) → Located a rs (row_under rs n) (rows_without rs n) (position_from (λ r. r.name.0 == n) a rs)
 located a [] n = (refl, refl)
-located a (r ∷ rs) n = by (eqb r.name.0 n) (row_under rs n) (rows_without rs n) (index_from (a + 1) rs n) (located (a + 1) rs n)
+located a (r ∷ rs) n = by (eqb r.name.0 n) (row_under rs n) (rows_without rs n) (position_from (λ r. r.name.0 == n) (a + 1) rs) (located (a + 1) rs n)
   where
     by : (b : Bool) (u : Option Row) (w : List Row) (o : Option ℕ) → Located (a + 1) rs u w o → Located a (r ∷ rs) (cond b (Some r) u) (cond b rs (r ∷ w)) (cond b (Some a) o)
     by true u w o h = (0, (omega arith, (omega arith, (refl, refl))))
@@ -54,6 +54,15 @@ places-without (x ∷ rs) n r k e = by (eqb x.name.0 n) (places-without rs n r k
   where
     by : (b : Bool) → (row_under rs n ≡ Some r → places rs k ≡ bit r.at k + places (rows_without rs n) k) → cond b (Some x) (row_under rs n) ≡ Some r → bit x.at k + places rs k ≡ bit r.at k + places (cond b rs (x ∷ rows_without rs n)) k
     by true rest q = let same : x ≡ r = cc in let s = ap (λ (y : Row). bit y.at k) same in omega arith
+    by false rest q = let h = rest q in omega arith
+
+-- and so many rows in all
+pub length-without : (rs : List Row) (n : ℕ) (r : Row) → row_under rs n ≡ Some r → length rs ≡ length (rows_without rs n) + 1
+length-without [] n r e = absurd (let z : ◌≡◌ {A = ℕ} 0 1 = cc in let never : ⊥ = omega arith in never)
+length-without (x ∷ rs) n r e = by (eqb x.name.0 n) (length-without rs n r) e
+  where
+    by : (b : Bool) → (row_under rs n ≡ Some r → length rs ≡ length (rows_without rs n) + 1) → cond b (Some x) (row_under rs n) ≡ Some r → length (x ∷ rs) ≡ length (cond b rs (x ∷ rows_without rs n)) + 1
+    by true rest q = omega arith
     by false rest q = let h = rest q in omega arith
 
 -- every list has at most so many rows at a place as it has rows
@@ -85,6 +94,11 @@ all_without P (r ∷ rs) n h = by (eqb r.name.0 n) (all_without P rs n h.1)
     by : (b : Bool) → All P (rows_without rs n) → All P (cond b rs (r ∷ rows_without rs n))
     by true rest = h.1
     by false rest = (h.0, rest)
+
+-- of a list with a row more
+pub all_popped : (P : Row → Type 0) (rs : List Row) (r : Row) → All P (rs ++ (r ∷ [])) → All P rs × P r
+all_popped P [] r h = (tt, h.0)
+all_popped P (x ∷ rs) r h = let a = all_popped P rs r h.1 in ((h.0, a.0), a.1)
 
 -- and of the row that goes
 pub all_under : (P : Row → Type 0) (rs : List Row) (n : ℕ) (r : Row) → row_under rs n ≡ Some r → All P rs → P r

@@ -1,178 +1,109 @@
 -- The rows of a table, as its calls read and write them.
-use Rattle.std.proofs.Common.{◌≡◌, ℕ, suc, ◌+◌, ◌-◌, ◌<◌, ◌≤◌, true, false, eqb, leb, ◌≢◌, List, [], ◌∷◌, ◌++◌, length, get_or, take, drop, set, is_some, Some, None, Ok, Err, Option, sym, refl, ap, ◌∙◌, subst, arith}
-use borrow.Rule.Slice.PartMut.{put_mid}
-use Rattle.std.proofs.lemmas.Bool.{true≢false, false≢true, eq-eqb, ne_eqb, le-leb, lt-leb}
-use Rattle.store.specs.declared.refusal.Refusal.TheVariants.{HeldFull, NameTaken}
-use Rattle.std.proofs.lemmas.List.{length-take, length-drop, length-append, length_push, get_or-take, at_drop_more, at_drop_all, append_assoc, drop-drop, drop_more, drop-take, drop_at, drop-set-lt, take_at, take-take, take-append-drop, take_more_set}
+use Rattle.std.proofs.Common.{◌≡◌, ℕ, suc, ◌<◌, ◌≤◌, Bool, true, false, cond, eqb, leb, ◌==◌, is_some, List, [], ◌∷◌, ◌++◌, length, get_or, take, drop, Some, None, Ok, Err, Option, Result, sym, refl, ap, ◌∙◌, subst, arith}
+use Rattle.std.specs.List.{position}
+use Rattle.std.specs.Option.{ok_or}
+use Rattle.std.proofs.lemmas.Bool.{true≢false, false≢true, le-leb, lt-leb}
+use Rattle.std.proofs.lemmas.Iterator.Adapters.{position_from-zero}
+use Rattle.store.specs.declared.refusal.Refusal.{Refusal}
+use Rattle.store.specs.declared.refusal.Refusal.TheVariants.{HeldFull, NameTaken, NotHeld}
 use Rattle.bottom.specs.declared.row.Row.{Row}
-use Rattle.bottom.specs.declared.table.Table.{Table}
-use Rattle.bottom.specs.Rows.{blank, row_under, rows_without, index_from, added, added_by}
-use Rattle.bottom.specs.Tables.{listed, spare}
+use Rattle.bottom.specs.Rows.{blank, row_under, rows_without, admitted, admitted_by, added, added_by}
 use Rattle.bottom.proofs.Rows.{Located, located}
 
--- so many rows are listed as names are held
-pub length-listed : (t : Table) → length (listed t) ≡ t.held
-length-listed t = let a = t.some in let b = t.few in let d = t.sized in simp length-take (omega arith)
-
--- one row further in a search
-pub index_more : (t : Table) (n i : ℕ) → i < t.held → index_from i (drop i (listed t)) n ≡ index_from i (get_or t.rows i (blank 0) ∷ drop (i + 1) (listed t)) n
-index_more t n i l =
-    let long = length-listed t in
-    let here : get_or (listed t) i (blank 0) ≡ get_or t.rows i (blank 0) = get_or-take t.held t.rows i (blank 0) l in
-    at_drop_more (λ ys. index_from i ys n) (listed t) i (blank 0) (omega arith) ∙ ap (λ r. index_from i (r ∷ drop (i + 1) (listed t)) n) here
-
--- past the last row nothing is found
-pub index_all : (t : Table) (n i : ℕ) → t.held ≤ i → index_from i (drop i (listed t)) n ≡ None
-index_all t n i l = let long = length-listed t in at_drop_all (λ ys. index_from i ys n) (listed t) i (omega arith)
-
 -- what a search found
-pub record Hit (t : Table) (n i : ℕ) : Type 0 where
-  pub within : i < t.held
-  pub under : row_under (listed t) n ≡ Some (get_or t.rows i (blank 0))
-  pub rest : rows_without (listed t) n ≡ take i (listed t) ++ drop (suc i) (listed t)
+pub record Hit (rs : List Row) (n i : ℕ) : Type 0 where
+  pub within : i < length rs
+  pub under : row_under rs n ≡ Some (get_or rs i (blank 0))
+  pub rest : rows_without rs n ≡ take i rs ++ drop (suc i) rs
 
--- a found index says so
-pub hit : (t : Table) (n i : ℕ) → Some i ≡ index_from 0 (listed t) n → Hit t n i
-hit t n i e =
-    let h : Located 0 (listed t) (row_under (listed t) n) (rows_without (listed t) n) (Some i) = subst (Located 0 (listed t) (row_under (listed t) n) (rows_without (listed t) n)) (sym e) (located 0 (listed t) n) in
-    let j : ℕ = h.0 in
-    let same : j ≡ i = let q = h.1.0 in omega arith in
-    let long = length-listed t in
-    let l : j < length (listed t) = h.1.1.0 in
-    let l' : i < t.held = omega arith in
-    record {
-      within = l';
-      under = subst (λ k. row_under (listed t) n ≡ Some (get_or (listed t) k (blank 0))) same h.1.1.1.0 ∙ ap Some (get_or-take t.held t.rows i (blank 0) l');
-      rest = subst (λ k. rows_without (listed t) n ≡ take k (listed t) ++ drop (suc k) (listed t)) same h.1.1.1.1;
-    }
+-- what the search answers, as an index from 0 on
+found_as : (rs : List Row) (n : ℕ) → Located 0 rs (row_under rs n) (rows_without rs n) (position (λ r. r.name.0 == n) rs)
+found_as rs n = subst (Located 0 rs (row_under rs n) (rows_without rs n)) (sym (position_from-zero (λ r. r.name.0 == n) rs)) (located 0 rs n)
 
--- where no index is found, no row has the name
-pub miss : (t : Table) (n : ℕ) → None ≡ index_from 0 (listed t) n → (row_under (listed t) n ≡ None) × (rows_without (listed t) n ≡ listed t)
-miss t n e = subst (Located 0 (listed t) (row_under (listed t) n) (rows_without (listed t) n)) (sym e) (located 0 (listed t) n)
+module _ (rs : List Row) (n : ℕ) (o : Option ℕ) (is : o ≡ position (λ r. r.name.0 == n) rs) where
+  -- a found index says so
+  pub hit : (i : ℕ) → o ≡ Some i → Hit rs n i
+  hit i e =
+      let h : Located 0 rs (row_under rs n) (rows_without rs n) (Some i) = subst (Located 0 rs (row_under rs n) (rows_without rs n)) (sym is ∙ e) (found_as rs n) in
+      let j : ℕ = h.0 in
+      let same : j ≡ i = let q = h.1.0 in omega arith in
+      record {
+        within = let l : j < length rs = h.1.1.0 in omega arith;
+        under = subst (λ m. row_under rs n ≡ Some (get_or rs m (blank 0))) same h.1.1.1.0;
+        rest = subst (λ m. rows_without rs n ≡ take m rs ++ drop (suc m) rs) same h.1.1.1.1;
+      }
 
--- the free rows begin with the one behind the held ones
-pub spare-first : (xs : List Row) (h limit : ℕ) → h < limit → limit ≤ length xs → take (limit - h) (drop h xs) ≡ get_or xs h (blank 0) ∷ take (limit - (h + 1)) (drop (h + 1) xs)
-spare-first xs h limit l long =
-    let n : limit - h ≡ suc (limit - (h + 1)) = omega arith in
-    ap (take (limit - h)) (drop_more xs h (blank 0) (omega arith)) ∙ rw n
+  -- where none is found, no row has the name
+  pub miss : o ≡ None → (row_under rs n ≡ None) × (rows_without rs n ≡ rs)
+  miss e = subst (Located 0 rs (row_under rs n) (rows_without rs n)) (sym is ∙ e) (found_as rs n)
 
--- where there is room, some row is free
-pub spare-split : (t : Table) → length (listed t) < t.limit → (x : Row) × (spare t ≡ x ∷ drop 1 (spare t))
-spare-split t l =
-    let n = length-listed t in
-    let e = spare-first t.rows t.held t.limit (omega arith) (let a = t.few in let b = t.sized in omega arith) in
-    (get_or t.rows t.held (blank 0), e ∙ ap (λ rs. get_or t.rows t.held (blank 0) ∷ rs) (sym (ap (drop 1) e)))
-
--- a row written behind the held ones
-module _ (t : Table) (row : Row) (l : t.held < t.limit) where
-  -- it is the last of the held rows
-  pub add_listed : take (t.held + 1) (set t.rows t.held row) ≡ listed t ++ (row ∷ [])
-  add_listed = take_more_set t.rows t.held row (let a = t.few in let b = t.sized in omega arith)
-
-  -- and the first free row is gone
-  pub add_spare : take (t.limit - (t.held + 1)) (drop (t.held + 1) (set t.rows t.held row)) ≡ drop 1 (spare t)
-  add_spare =
-      let first = spare-first t.rows t.held t.limit l (let a = t.few in let b = t.sized in omega arith) in
-      ap (take (t.limit - (t.held + 1))) (drop-set-lt (t.held + 1) t.rows t.held row (omega arith)) ∙ sym (ap (drop 1) first)
-
--- a row moved behind the held ones
-module _ (xs ys : List Row) (i h : ℕ) (l : i < h) (long : h ≤ length xs) (turned : ys ≡ drop 1 (take (h - i) (drop i xs)) ++ take 1 (take (h - i) (drop i xs))) where
-  -- the row that goes
-  abbrev gone : Row
-  gone = get_or xs i (blank 0)
-
-  -- the held rows before it
-  abbrev front : List Row
-  front = take i xs
-
-  -- the held rows after it
-  abbrev back : List Row
-  back = take (h - (i + 1)) (drop (i + 1) xs)
-
-  -- the part that is turned
-  middle : take (h - i) (drop i xs) ≡ gone ∷ back
-  middle = let n : h - i ≡ suc (h - (i + 1)) = omega arith in ap (take (h - i)) (drop_more xs i (blank 0) (omega arith)) ∙ rw n
-
-  -- the part after it was turned
-  ys_is : ys ≡ back ++ (gone ∷ [])
-  ys_is = turned ∙ ap (λ zs. drop 1 zs ++ take 1 zs) middle
-
-  -- so many rows stay held
-  length-ends : length (front ++ back) ≡ h - 1
-  length-ends = simp (length-append, length-take, length-drop) (omega arith)
-
-  -- the rows after it
-  moved : put_mid i (h - i) xs ys ≡ (front ++ back) ++ (gone ∷ drop h xs)
-  moved =
-      let rest : drop (h - i) (drop i xs) ≡ drop h xs = drop-drop (h - i) i xs ∙ ap (λ n. drop n xs) (let q : i + (h - i) ≡ h = omega arith in q) in
-      ap (λ zs. front ++ (ys ++ zs)) rest ∙ ap (λ zs. front ++ (zs ++ drop h xs)) ys_is
-      ∙ ap (λ zs. front ++ zs) (append_assoc back (gone ∷ []) (drop h xs)) ∙ sym (append_assoc front back (gone ∷ drop h xs))
-
-  -- as many rows as before
-  pub length_moved : length (put_mid i (h - i) xs ys) ≡ length xs
-  length_moved = ap length moved ∙ length-append (front ++ back) (gone ∷ drop h xs) ∙ (let a = length-ends in simp length-drop (omega arith))
-
-  -- the held rows before it
-  held_rows : take h xs ≡ front ++ (gone ∷ back)
-  held_rows =
-      let whole : take h xs ≡ take i (take h xs) ++ drop i (take h xs) = sym (take-append-drop i (take h xs)) in
-      let left : take i (take h xs) ≡ front = take-take i h xs (omega arith) in
-      let right : drop i (take h xs) ≡ take (h - i) (drop i xs) = ap (λ n. drop i (take n xs)) (let q : h ≡ i + (h - i) = omega arith in q) ∙ drop-take i (h - i) xs in
-      whole ∙ ap (λ zs. zs ++ drop i (take h xs)) left ∙ ap (λ zs. front ++ zs) (right ∙ middle)
-
-  -- the held rows are those before without it
-  pub remove_listed : take (h - 1) (put_mid i (h - i) xs ys) ≡ take i (take h xs) ++ drop (suc i) (take h xs)
-  remove_listed =
-      let n : length front ≡ i = simp length-take (omega arith) in
-      let left : take i (take h xs) ≡ front = take-take i h xs (omega arith) in
-      let right : drop (suc i) (take h xs) ≡ back =
-      ap (drop (suc i)) (held_rows ∙ sym (append_assoc front (gone ∷ []) back)) ∙ drop_at (front ++ (gone ∷ [])) back (suc i) (length_push front gone ∙ (let q : length front + 1 ≡ suc i = omega arith in q)) in
-      ap (take (h - 1)) moved ∙ take_at (front ++ back) (gone ∷ drop h xs) (h - 1) length-ends ∙ sym (ap (λ zs. zs ++ drop (suc i) (take h xs)) left ∙ ap (λ zs. front ++ zs) right)
-
-  -- and it is the first free row
-  pub remove_spare : (limit : ℕ) → h ≤ limit → take (limit - (h - 1)) (drop (h - 1) (put_mid i (h - i) xs ys)) ≡ gone ∷ take (limit - h) (drop h xs)
-  remove_spare limit m =
-      let n : limit - (h - 1) ≡ suc (limit - h) = omega arith in
-      ap (λ zs. take (limit - (h - 1)) (drop (h - 1) zs)) moved ∙ ap (take (limit - (h - 1))) (drop_at (front ++ back) (gone ∷ drop h xs) (h - 1) length-ends) ∙ rw n
-
--- what adding a row answers
-module _ (t : Table) (row : Row) (o : Option ℕ) (is : o ≡ index_from 0 (listed t) row.name.0) where
-  -- no row has the name
-  fresh : is_some o ≡ false → row_under (listed t) row.name.0 ≡ None
-  fresh = by o is
+  -- the same, told as a refusal
+  pub hit_ok : (i : ℕ) → Ok i ≡ ok_or o NotHeld → Hit rs n i
+  hit_ok i = by o refl
     where
-      by : (p : Option ℕ) → p ≡ index_from 0 (listed t) row.name.0 → is_some p ≡ false → row_under (listed t) row.name.0 ≡ None
-      by None e n = (miss t row.name.0 e).0
-      by (Some i) e n = absurd (true≢false n)
+      by : (p : Option ℕ) → o ≡ p → Ok i ≡ ok_or p NotHeld → Hit rs n i
+      by None e q = absurd (let z : ◌≡◌ {A = ℕ} 0 1 = cc in let never : ⊥ = omega arith in never)
+      by (Some k) e q = let s : Some k ≡ Some i = cc in hit i (e ∙ s)
 
-  -- a held name is refused
-  pub added-held : is_some o ≡ true → (Err NameTaken, listed t) ≡ added t.limit (listed t) row
-  added-held = by o is
+  pub miss_err : (x : Refusal) → Err x ≡ ok_or o NotHeld → (Err x ≡ ok_or (row_under rs n) NotHeld) × (rows_without rs n ≡ rs)
+  miss_err x = by o refl
     where
-      by : (p : Option ℕ) → p ≡ index_from 0 (listed t) row.name.0 → is_some p ≡ true → (Err NameTaken, listed t) ≡ added t.limit (listed t) row
-      by None e n = absurd (false≢true n)
-      by (Some i) e n = sym (ap (added_by t.limit (listed t) row) (hit t row.name.0 i e).under)
+      by : (p : Option ℕ) → o ≡ p → Err x ≡ ok_or p NotHeld → (Err x ≡ ok_or (row_under rs n) NotHeld) × (rows_without rs n ≡ rs)
+      by None e q = let m = miss e in let r : Err x ≡ Err NotHeld = cc in (r ∙ sym (ap (λ u. ok_or u NotHeld) m.0), m.1)
+      by (Some k) e q = absurd (let z : ◌≡◌ {A = ℕ} 0 1 = cc in let never : ⊥ = omega arith in never)
 
-  -- a new name is refused where no row is free
-  pub added_full : row.name.0 ≢ 0 → is_some o ≡ false → t.limit ≤ t.held → (Err HeldFull, listed t) ≡ added t.limit (listed t) row
-  added_full nz n l =
-      let long = length-listed t in
-      let a : eqb row.name.0 0 ≡ false = ne_eqb _ _ nz in
-      let b : leb t.limit (length (listed t)) ≡ true = le-leb _ _ (omega arith) in
-      sym (ap (added_by t.limit (listed t) row) (fresh n) ∙ rw (a, b))
+  -- a held name is not admitted
+  pub admitted-held : is_some o ≡ true → Err NameTaken ≡ admitted rs n
+  admitted-held = by o refl
+    where
+      by : (p : Option ℕ) → o ≡ p → is_some p ≡ true → Err NameTaken ≡ admitted rs n
+      by None e t = absurd (false≢true t)
+      by (Some k) e t = sym (ap (admitted_by n) (hit k e).under)
 
-  -- and else it is added
-  pub added-fits : row.name.0 ≢ 0 → is_some o ≡ false → t.held < t.limit → (Ok tt, listed t ++ (row ∷ [])) ≡ added t.limit (listed t) row
-  added-fits nz n l =
-      let long = length-listed t in
-      let a : eqb row.name.0 0 ≡ false = ne_eqb _ _ nz in
-      let b : leb t.limit (length (listed t)) ≡ false = lt-leb _ _ (omega arith) in
-      sym (ap (added_by t.limit (listed t) row) (fresh n) ∙ rw (a, b))
+  -- one that no row has is, unless it is 0
+  pub admitted-new : is_some o ≡ false → eqb n 0 ≡ false → Ok tt ≡ admitted rs n
+  admitted-new = by o refl
+    where
+      by : (p : Option ℕ) → o ≡ p → is_some p ≡ false → eqb n 0 ≡ false → Ok tt ≡ admitted rs n
+      by (Some k) e t nz = absurd (true≢false t)
+      by None e t nz = sym (ap (admitted_by n) (miss e).0 ∙ rw nz refl)
 
--- the name 0 is refused
-pub added-zero : (limit : ℕ) (rs : List Row) (row : Row) → row.name.0 ≡ 0 → (Err NameTaken, rs) ≡ added limit rs row
-added-zero limit rs row z = by (row_under rs row.name.0)
+-- the name 0 is not admitted
+pub admitted-zero : (rs : List Row) (n : ℕ) → eqb n 0 ≡ true → Err NameTaken ≡ admitted rs n
+admitted-zero rs n z = by (row_under rs n)
   where
-    by : (u : Option Row) → (Err NameTaken, rs) ≡ added_by limit rs row u
+    by : (u : Option Row) → Err NameTaken ≡ admitted_by n u
     by (Some s) = refl
-    by None = let a : eqb row.name.0 0 ≡ true = eq-eqb _ _ z in rw a
+    by None = rw z refl
+
+module _ (limit : ℕ) (rs : List Row) (row : Row) where
+  -- a name that is not admitted is not added
+  pub added-taken : (x : Refusal) → Err x ≡ admitted rs row.name.0 → (Err x, rs) ≡ added limit rs row
+  added-taken x = by (row_under rs row.name.0)
+    where
+      by_test : (zero : Bool) → Err x ≡ cond {A = Result (Unit {0}) Refusal} zero (Err NameTaken) (Ok tt) → (Err x, rs) ≡ cond {A = Result (Unit {0}) Refusal × List Row} zero (Err NameTaken, rs) (cond (leb limit (length rs)) (Err HeldFull, rs) (Ok tt, rs ++ (row ∷ [])))
+      by_test true e = ap (λ a. (a, rs)) e
+      by_test false e = absurd (let z : ◌≡◌ {A = ℕ} 0 1 = cc in let never : ⊥ = omega arith in never)
+
+      by : (u : Option Row) → Err x ≡ admitted_by row.name.0 u → (Err x, rs) ≡ added_by limit rs row u
+      by (Some s) e = ap (λ a. (a, rs)) e
+      by None e = by_test (eqb row.name.0 0) e
+
+  -- one that is admitted is, where there is room
+  admitted_as : (full : Bool) → leb limit (length rs) ≡ full → Ok tt ≡ admitted rs row.name.0 → cond {A = Result (Unit {0}) Refusal × List Row} full (Err HeldFull, rs) (Ok tt, rs ++ (row ∷ [])) ≡ added limit rs row
+  admitted_as full is = by (row_under rs row.name.0)
+    where
+      by_test : (zero : Bool) → Ok tt ≡ cond {A = Result (Unit {0}) Refusal} zero (Err NameTaken) (Ok tt) → cond {A = Result (Unit {0}) Refusal × List Row} full (Err HeldFull, rs) (Ok tt, rs ++ (row ∷ [])) ≡ cond zero (Err NameTaken, rs) (cond (leb limit (length rs)) (Err HeldFull, rs) (Ok tt, rs ++ (row ∷ [])))
+      by_test true e = absurd (let z : ◌≡◌ {A = ℕ} 0 1 = cc in let never : ⊥ = omega arith in never)
+      by_test false e = rw is refl
+
+      by : (u : Option Row) → Ok tt ≡ admitted_by row.name.0 u → cond {A = Result (Unit {0}) Refusal × List Row} full (Err HeldFull, rs) (Ok tt, rs ++ (row ∷ [])) ≡ added_by limit rs row u
+      by (Some s) e = absurd (let z : ◌≡◌ {A = ℕ} 0 1 = cc in let never : ⊥ = omega arith in never)
+      by None e = by_test (eqb row.name.0 0) e
+
+  -- and where there is none, it is refused
+  pub added_full : limit ≤ length rs → Ok tt ≡ admitted rs row.name.0 → (Err HeldFull, rs) ≡ added limit rs row
+  added_full l = admitted_as true (le-leb _ _ l)
+
+  pub added-fits : length rs < limit → Ok tt ≡ admitted rs row.name.0 → (Ok tt, rs ++ (row ∷ [])) ≡ added limit rs row
+  added-fits l = admitted_as false (lt-leb _ _ l)

@@ -2,9 +2,8 @@
 use Rattle.std.proofs.Common.{◌≡◌, ℕ, zero, suc, ◌+◌, ◌-◌, ◌<◌, ◌≤◌, List, [], ◌∷◌, ◌++◌, length, take, Some, Ok, Err, refl, ap, ◌∙◌, arith}
 use Rattle.std.specs.List.{slice_get}
 use Rattle.std.proofs.lemmas.List.{length_push, take_at}
-use Rattle.std.proofs.lemmas.Option.{slice_get_past}
 use Rattle.std.proofs.lemmas.Bool.{cond-true, cond-false, le-leb, lt-leb}
-use Rattle.store.specs.declared.refusal.Refusal.TheVariants.{Full, Empty}
+use Rattle.store.specs.declared.refusal.Refusal.TheVariants.{Full}
 use Rattle.store.specs.Meaning.{Meaning, pushed, popped, popped_by, top, with_current}
 
 module _ {A : Type 0} where
@@ -27,10 +26,6 @@ module _ {A : Type 0} where
       let found : top m.current ≡ Some x = rw (last, e) (nth_right xs (x ∷ []) (length xs) 0 (omega arith)) in
       let rest : take (length m.current - 1) m.current ≡ xs = rw (last, e) (take_at xs (x ∷ []) (length xs) refl) in
       ap (popped_by m) found ∙ ap (λ cs. (Ok x, with_current m cs)) rest
-
-  -- an empty list has nothing to pop
-  pub popped-empty : (m : Meaning A) → length m.current ≡ 0 → popped m ≡ (Err Empty, m)
-  popped-empty m e = ap (popped_by m) (slice_get_past m.current (length m.current - 1) (omega arith))
 
   -- a push at the depth limit is refused
   pub pushed_full : (m : Meaning A) (c : A) → m.depth_limit ≤ length m.current → pushed m c ≡ (Err (Full m.limit_level), m)

@@ -13,15 +13,19 @@ abbrev pub row_under : List Row → ℕ → Option Row
 row_under [] n = None
 row_under (r ∷ rs) n = cond (r.name.0 == n) (Some r) (row_under rs n)
 
--- the index of the first row of a name, where the rows are counted from some number on
-abbrev pub index_from : ℕ → List Row → ℕ → Option ℕ
-index_from i [] n = None
-index_from i (r ∷ rs) n = cond (r.name.0 == n) (Some i) (index_from (i + 1) rs n)
-
 -- the rows without the first one of a name
 abbrev pub rows_without : List Row → ℕ → List Row
 rows_without [] n = []
 rows_without (r ∷ rs) n = cond (r.name.0 == n) rs (r ∷ rows_without rs n)
+
+-- what is answered to a new name, by the row that it has already: one that is 0 or held is refused
+abbrev pub admitted_by : ℕ → Option Row → Result (Unit {0}) Refusal
+admitted_by n (Some s) = Err NameTaken
+admitted_by n None = cond (n == 0) (Err NameTaken) (Ok tt)
+
+-- the same, among some rows
+abbrev pub admitted : List Row → ℕ → Result (Unit {0}) Refusal
+admitted rs n = admitted_by n (row_under rs n)
 
 -- what adding a row answers, and the rows after it, by the row that its name has already
 abbrev pub added_by : ℕ → List Row → Row → Option Row → Result (Unit {0}) Refusal × List Row
@@ -36,11 +40,6 @@ added_by limit rs r None =
 -- a name that is 0 or held is refused first, and then one row more than the limit
 abbrev pub added : ℕ → List Row → Row → Result (Unit {0}) Refusal × List Row
 added limit rs r = added_by limit rs r (row_under rs r.name.0)
-
--- the place of the first row, or 0 if there is none
-abbrev pub first_place : List Row → ℕ
-first_place [] = 0
-first_place (r ∷ rs) = r.at
 
 -- 1 if two numbers are the same, else 0
 abbrev pub bit : ℕ → ℕ → ℕ

@@ -1,6 +1,6 @@
 //! The limits that a bottom store may be given.
-ghost use Rattle.std.specs.Prelude.{◌≡◌};
-ghost use Rattle.bottom.specs.Limits.{in_range, cells_needed};
+ghost use Rattle.std.specs.Prelude.{◌≡◌, if◌then◌else◌};
+ghost use Rattle.bottom.specs.Limits.{in_range, cells_needed, accepted};
 
 /// The least depth limit.
 pub const LEAST_DEPTH: u32 = 16;
@@ -18,7 +18,7 @@ pub const MOST_HELD: u32 = 64;
 pub fn are_in_range(depth: u32, held: u32) -> bool
     ensures { result ≡ in_range depth held }
 {
-    LEAST_DEPTH <= depth && depth <= MOST_DEPTH && LEAST_HELD <= held && held <= MOST_HELD
+    (LEAST_DEPTH..=MOST_DEPTH).contains(&depth) && (LEAST_HELD..=MOST_HELD).contains(&held)
 }
 
 /// How many cells a store with these limits must have room for.
@@ -26,4 +26,15 @@ pub fn cells_needed(depth: u32, held: u32) -> usize
     ensures { result ≡ cells_needed depth held }
 {
     depth as usize * (held as usize + 1)
+}
+
+/// The limits that were asked for, or both 0 unless they are in range and there is room for so many cells.
+pub fn granted(room: usize, depth: u32, held: u32) -> (u32, u32)
+    ensures { result ≡ (if accepted room (cells_needed depth held) depth held then (depth, held) else (0, 0)) }
+{
+    if are_in_range(depth, held) && cells_needed(depth, held) <= room {
+        (depth, held)
+    } else {
+        (0, 0)
+    }
 }

@@ -1,20 +1,19 @@
 //! The table of held names.
-ghost use Rattle.std.specs.Prelude.{◌≡◌, ◌≤◌, length};
+ghost use Rattle.std.specs.Prelude.{◌≤◌, length};
 
 use crate::row::Row;
+use arrayvec::ArrayVec;
 
 pub mod methods;
 
 /// How many rows a table has room for.
 pub const ROWS: usize = 64;
 
-/// The rows of the held names, the oldest first, and behind them the free rows, each with a place of its own.
+/// The rows of the held names, the oldest first.
 #[derive(Drop)]
 pub struct Table {
-    rows: [Row; ROWS],
-    held: u32,
+    rows: ArrayVec<Row, ROWS>,
     limit: u32,
-    ghost sized: { length rows ≡ 64 },
-    ghost some: { held ≤ limit },
+    ghost some: { length rows.items ≤ limit },
     ghost few: { limit ≤ 64 },
 }

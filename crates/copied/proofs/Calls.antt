@@ -1,31 +1,32 @@
 -- What each call of a copied stack leaves: its meaning, the facts that its fields owe, and the memory past its need.
-use Rattle.std.proofs.Common.{◌≡◌, ℕ, ◌+◌, ◌-◌, ◌*◌, ◌<◌, ◌≤◌, ◌≢◌, ◌⊎◌, List, [], ◌∷◌, ◌++◌, length, drop, Some, None, Ok, Err, Option, Result, sym, refl, ap, ◌∙◌, subst, inl, inr, ⊎_elim, arith}
+use Rattle.std.proofs.Common.{◌≡◌, ℕ, ◌+◌, ◌-◌, ◌*◌, ◌<◌, ◌≤◌, ◌≢◌, ◌⊎◌, List, [], ◌∷◌, ◌++◌, length, drop, Some, None, Ok, Err, Result, sym, refl, ap, ◌∙◌, subst, inl, inr, ⊎_elim, arith}
 use lib.Seq.{paste}
 use Rattle.std.specs.List.{slice_get, AllByRecursion as All}
-use Rattle.std.specs.Option.{option_to_list}
+use Rattle.std.specs.Option.{ok_or}
+use Rattle.store.specs.declared.refusal.Refusal.TheVariants.{NotHeld}
 use Rattle.std.proofs.lemmas.List.FromFn.{length-map-range_with_len, get_or-map-range_with_len, map-range_with_len_more}
 use Rattle.std.proofs.ByRecursion.{All-weaker, All-push}
-use Rattle.std.proofs.lemmas.List.{length-drop}
+use Rattle.std.proofs.lemmas.List.{length-drop, length_push, map_push}
 use Rattle.std.proofs.lemmas.Option.{slice_get-get_or, slice_get_past}
 use Rattle.std.proofs.lemmas.Bool.{cases_order}
 use Rattle.store.specs.declared.refusal.Refusal.{Refusal}
-use Rattle.store.specs.Meaning.{pushed, popped, saved, released}
+use Rattle.store.specs.Meaning.{pushed, popped, saved, released, with_current}
 use Rattle.cell.specs.declared.cell.Cell.{Cell}
 use Rattle.bottom.specs.declared.row.Row.{Row}
 use Rattle.bottom.specs.declared.table.Table.{Table}
 use Rattle.bottom.specs.Limits.{cells_needed}
 use Rattle.bottom.specs.Meant.{by_rows}
-use Rattle.bottom.specs.Rows.{bit, places, row_under, rows_without, added, first_place}
-use Rattle.bottom.specs.Tables.{listed, spare}
-use Rattle.bottom.proofs.Answered.{alike, released_some, saved-row, saved-refused}
-use Rattle.bottom.proofs.Rows.{bit-same, places_push, places-without, places_none, all_both, all_under, all_without, added_ok, added-refused, without_none}
-use Rattle.bottom.proofs.Tables.{spare-split}
+use Rattle.bottom.specs.Rows.{blank, bit, places, row_under, rows_without, admitted, added}
+use Rattle.bottom.specs.Tables.{listed}
+use Rattle.bottom.proofs.Answered.{not_held, alike, released_some, saved-row, saved-refused}
+use Rattle.bottom.proofs.Rows.{bit-same, length-without, places_push, places-without, places_none, all_both, all_popped, all_under, all_without, without_none}
+use Rattle.bottom.proofs.Tables.{added-fits}
 use Rattle.bottom.proofs.Tops.{popped_push, pushed_room}
 use Rattle.copied.specs.declared.copied.Copied.{Copied}
 use Rattle.cell.specs.Filled.{width}
 use Rattle.copied.specs.Cells.{cell_at, cells}
 use Rattle.copied.specs.Meant.{size, meant}
-use Rattle.copied.specs.Parts.{part_start, read_row}
+use Rattle.copied.specs.Parts.{part_start, read_row, spare}
 use Rattle.copied.proofs.Regions.{cells_inside, cells_outside, cells-from, own_cell, written-beyond, written-long, part_below, part_past}
 use Rattle.copied.proofs.Stores.{words_of, RowFits, PlaceFits, rows_fit, spares_fit, Owed, owed}
 
@@ -56,11 +57,7 @@ part_in s place l = let a = part_below s.depth place s.table.limit l in let b = 
 pub first_in : (s : Copied) → width * s.depth ≤ length (words_of s)
 first_in s = let a = part_past s.depth s.table.limit in let b = s.room in omega arith
 
--- the same rows in another table
-pub owed_same : (s : Copied) (t : Table) → listed t ≡ listed s.table → spare t ≡ spare s.table → t.limit ≡ s.table.limit → Owed (length (words_of s)) t s.depth s.len
-owed_same s t rows frees limit = owed _ t s.depth s.len s.table.limit _ _ rows frees limit s.room s.flat s.fits s.apart (rows_fit s) (spares_fit s)
-
--- and means the same
+-- the same rows in another table mean the same
 pub meant-same : (s : Copied) (rows : List Row) (limit : ℕ) → rows ≡ listed s.table → limit ≡ s.table.limit → by_rows (read_row (words_of s) s.depth) (cells (words_of s) 0 s.len) rows s.depth limit ≡ meant s
 meant-same s rows limit e d = alike _ _ _ _ _ _ s.depth _ _ refl (All-weaker _ _ (λ r f. refl) (listed s.table) (rows_fit s)) e d
 
@@ -97,12 +94,6 @@ module _ (s : Copied) (short : s.len < s.depth) (c : Cell) (whole : length c.wor
   -- nothing past the need has changed
   pub push_beyond : drop (size s) vs ≡ drop (size s) (words_of s)
   push_beyond = ap (drop (size s)) is ∙ (let a = part_past s.depth s.table.limit in written-beyond (words_of s) c.words s.len 1 in_first (omega arith) (size s) (omega arith))
-
-  -- the fields owe what they did
-  pub push_owed : Owed (length vs) s.table s.depth (s.len + 1)
-  push_owed =
-      let long = ap length is ∙ written-long (words_of s) c.words s.len 1 in_first (omega arith) in
-      owed (length vs) s.table s.depth (s.len + 1) s.table.limit _ _ refl refl refl (let a = s.room in omega arith) s.flat (omega arith) s.apart (rows_fit s) (spares_fit s)
 
 -- the last cell of the current list
 pub pop_means : (s : Copied) (x : Cell) → 0 < s.len → x ≡ cell_at (words_of s) (s.len - 1) → (Ok x, by_rows (read_row (words_of s) s.depth) (cells (words_of s) 0 (s.len - 1)) (listed s.table) s.depth s.table.limit) ≡ popped (meant s)
@@ -146,29 +137,32 @@ module _ (s : Copied) (r : Row) (fit : RowFits s.depth s.table.limit r) (vs : Li
   pub load_long : length vs ≡ length (words_of s)
   load_long = ap length is ∙ written-long (words_of s) from 0 r.len in_front enough
 
-  -- where the rows stay, the fields owe what they did
-  pub restore_owed : Owed (length vs) s.table s.depth r.len
-  restore_owed =
+  -- the fields owe what they did
+  pub load_owed : Owed (length vs) s.table s.free.items s.depth r.len
+  load_owed =
       let long = load_long in
-      owed (length vs) s.table s.depth r.len s.table.limit _ _ refl refl refl (let a = s.room in omega arith) s.flat fit.0 s.apart (rows_fit s) (spares_fit s)
+      owed (length vs) s.table s.free.items s.depth r.len s.table.limit _ _ refl refl refl (let a = s.room in omega arith) s.flat fit.0 s.whole s.apart (rows_fit s) (spares_fit s)
 
-  -- the meaning, with these rows
-  pub load_means : (rows ws : List Row) (limit : ℕ) → ws ≡ rows → limit ≡ s.table.limit
-      → by_rows (read_row vs s.depth) (cells vs 0 r.len) ws s.depth limit ≡ by_rows (read_row (words_of s) s.depth) (read_row (words_of s) s.depth r) rows s.depth s.table.limit
-  load_means rows ws limit e d = alike (read_row (words_of s) s.depth) (read_row vs s.depth) _ _ rows ws s.depth _ _ load_current (load_alike rows) e d
+  -- so the store means the same, with that list
+  pub load_means : by_rows (read_row vs s.depth) (cells vs 0 r.len) (listed s.table) s.depth s.table.limit ≡ with_current (meant s) (read_row (words_of s) s.depth r)
+  load_means = alike (read_row (words_of s) s.depth) (read_row vs s.depth) _ _ (listed s.table) (listed s.table) s.depth _ _ load_current (load_alike (listed s.table)) refl refl
 
 -- a row that is found
 pub row-fit : (s : Copied) (n : ℕ) (r : Row) → row_under (listed s.table) n ≡ Some r → RowFits s.depth s.table.limit r
 row-fit s n r found = all_under _ (listed s.table) n r found (rows_fit s)
 
--- the row is free then
-module _ (s : Copied) (n : ℕ) (r : Row) (found : row_under (listed s.table) n ≡ Some r) (t : Table) (rows : listed t ≡ rows_without (listed s.table) n) (frees : spare t ≡ r ∷ spare s.table) (limit : t.limit ≡ s.table.limit) where
+-- the row is gone then, and its place is free
+module _ (s : Copied) (n : ℕ) (r : Row) (found : row_under (listed s.table) n ≡ Some r) (t : Table) (rows : listed t ≡ rows_without (listed s.table) n) (limit : t.limit ≡ s.table.limit) where
   -- what the fields owe then
-  pub gone_owed : (long len : ℕ) → long ≡ length (words_of s) → len ≤ s.depth → Owed long t s.depth len
-  gone_owed long len same short =
-      owed long t s.depth len s.table.limit _ _ rows frees limit (let a = s.room in omega arith) s.flat short
-      (λ k. (let a = s.apart k in let b = places-without (listed s.table) n r k found in let g : places (rows_without (listed s.table) n) k + (bit r.at k + places (spare s.table) k) ≤ 1 = omega arith in g))
-      (all_without _ (listed s.table) n (rows_fit s)) ((row-fit s n r found).1, spares_fit s)
+  pub gone_owed : (long len : ℕ) (free : List ℕ) → free ≡ s.free.items ++ (r.at ∷ []) → long ≡ length (words_of s) → len ≤ s.depth → Owed long t free s.depth len
+  gone_owed long len free frees same short =
+      let more = map_push blank s.free.items r.at in
+      owed long t free s.depth len s.table.limit _ _ rows frees limit (let a = s.room in omega arith) s.flat short
+      (let a = length-without (listed s.table) n r found in let b = s.whole in let d = length_push s.free.items r.at in omega arith)
+      (λ k. (let a = s.apart k in let b = places-without (listed s.table) n r k found in let d = places_push (spare s.free.items) (blank r.at) k in let e = ap (λ fs. places fs k) more in
+      let g : places (rows_without (listed s.table) n) k + places (spare (s.free.items ++ (r.at ∷ []))) k ≤ 1 = omega arith in g))
+      (all_without _ (listed s.table) n (rows_fit s))
+      (subst (All (PlaceFits s.table.limit)) (sym more) (All-push _ (spare s.free.items) (blank r.at) (spares_fit s) (row-fit s n r found).1))
 
   -- the meaning, where the memory stays
   pub release_means : (Ok tt, by_rows (read_row (words_of s) s.depth) (cells (words_of s) 0 s.len) (listed t) s.depth t.limit) ≡ released (meant s) n
@@ -176,66 +170,62 @@ module _ (s : Copied) (n : ℕ) (r : Row) (found : row_under (listed s.table) n 
       ap (λ m. (Ok tt, m)) (alike _ _ _ _ _ _ s.depth _ _ refl (All-weaker _ _ (λ x f. refl) _ (all_without _ (listed s.table) n (rows_fit s))) rows limit)
       ∙ released_some (read_row (words_of s) s.depth) (cells (words_of s) 0 s.len) (listed s.table) s.depth s.table.limit n r found
 
--- a table from which a row was removed, if there was one
-pub removed_owed : (s : Copied) (n : ℕ) (t : Table) (o : Option Row) → o ≡ row_under (listed s.table) n → listed t ≡ rows_without (listed s.table) n → spare t ≡ option_to_list o ++ spare s.table → t.limit ≡ s.table.limit → Owed (length (words_of s)) t s.depth s.len
-removed_owed s n t None found rows frees limit = owed_same s t (rows ∙ without_none (listed s.table) n (sym found)) frees limit
-removed_owed s n t (Some r) found rows frees limit = gone_owed s n r (sym found) t rows frees limit (length (words_of s)) s.len refl s.fits
+-- a table that had no row of the name is as it was
+module _ (s : Copied) (n : ℕ) (t : Table) (x : Refusal) (none : Err x ≡ ok_or (row_under (listed s.table) n) NotHeld) (rows : listed t ≡ rows_without (listed s.table) n) (limit : t.limit ≡ s.table.limit) where
+  same_rows : listed t ≡ listed s.table
+  same_rows = rows ∙ without_none (listed s.table) n (not_held (row_under (listed s.table) n) x none).0
 
--- a save that the table refuses
-pub save_refused : (s : Copied) (t : Table) (n place : ℕ) (a : Result (Unit {0}) Refusal) (x : Refusal) → a ≡ Err x
-    → (Err x, listed t) ≡ added s.table.limit (listed s.table) (record { name = record { 0 = n }; at = place; len = s.len }) → t.limit ≡ s.table.limit
-    → (a, by_rows (read_row (words_of s) s.depth) (cells (words_of s) 0 s.len) (listed t) s.depth t.limit) ≡ saved (meant s) n
-save_refused s t n place a x is answer limit =
-    let same = added-refused s.table.limit (listed s.table) (listed t) (record { name = record { 0 = n }; at = place; len = s.len }) x answer in
-    ap (λ b. (b, by_rows (read_row (words_of s) s.depth) (cells (words_of s) 0 s.len) (listed t) s.depth t.limit)) is
-    ∙ ap (λ m. (Err x, m)) (meant-same s (listed t) t.limit same limit)
-    ∙ saved-refused (read_row (words_of s) s.depth) (cells (words_of s) 0 s.len) (listed s.table) s.depth s.table.limit _ x (ap (λ rs. (Err x, rs)) (sym same) ∙ answer)
+  pub refused_owed : Owed (length (words_of s)) t s.free.items s.depth s.len
+  refused_owed = owed _ t s.free.items s.depth s.len s.table.limit _ _ same_rows refl limit s.room s.flat s.fits s.whole s.apart (rows_fit s) (spares_fit s)
 
--- the current list is copied to the part of a free row
-module _ (s : Copied) (t : Table) (n place : ℕ) (at : place ≡ first_place (spare s.table)) (answer : (Ok tt, listed t) ≡ added s.table.limit (listed s.table) (record { name = record { 0 = n }; at = place; len = s.len })) where
+  pub refused_means : by_rows (read_row (words_of s) s.depth) (cells (words_of s) 0 s.len) (listed t) s.depth t.limit ≡ meant s
+  refused_means = meant-same s (listed t) t.limit same_rows limit
+
+-- a row for the current list
+abbrev pub row_for : Copied → ℕ → ℕ → Row
+row_for s n place = record { name = record { 0 = n }; at = place; len = s.len }
+
+-- a save that is refused
+pub save_refused : (s : Copied) (n : ℕ) (a : Result (Unit {0}) Refusal) (x : Refusal) → a ≡ Err x → (Err x, listed s.table) ≡ added s.table.limit (listed s.table) (row_for s n 0) → (a, meant s) ≡ saved (meant s) n
+save_refused s n a x is answer = ap (λ b. (b, meant s)) is ∙ saved-refused (read_row (words_of s) s.depth) (cells (words_of s) 0 s.len) (listed s.table) s.depth s.table.limit (row_for s n 0) x answer
+
+-- no place is free only where no name more may be held
+pub all_held : (s : Copied) → length s.free.items ≡ 0 → s.table.limit ≤ length (listed s.table)
+all_held s e = let a = s.whole in omega arith
+
+-- the current list is copied to a free part
+module _ (s : Copied) (n place : ℕ) (rest : List ℕ) (popped : s.free.items ≡ rest ++ (place ∷ [])) where
   -- the new row
   abbrev new : Row
-  new = record { name = record { 0 = n }; at = place; len = s.len }
+  new = row_for s n place
 
-  -- the rows then
-  rows : listed t ≡ listed s.table ++ (new ∷ [])
-  rows = (added_ok s.table.limit (listed s.table) (listed t) new answer).0
+  -- the free rows were the others and that of the place
+  split : spare s.free.items ≡ spare rest ++ (blank place ∷ [])
+  split = ap spare popped ∙ map_push blank rest place
 
-  -- some row was free
-  split : (x : Row) × (spare s.table ≡ x ∷ drop 1 (spare s.table))
-  split = spare-split s.table (added_ok s.table.limit (listed s.table) (listed t) new answer).1
-
-  -- the first free row
-  abbrev first : Row
-  first = split.0
-
-  -- the other free rows
-  abbrev rest : List Row
-  rest = drop 1 (spare s.table)
-
-  -- the place is that of the first free row
-  place_is : place ≡ first.at
-  place_is = at ∙ ap first_place split.1
+  -- so a name more may be held
+  pub room_for : length (listed s.table) < s.table.limit
+  room_for = let a = s.whole in let b = ap length popped in let d = length_push rest place in omega arith
 
   -- the parts of the free rows are there
-  all-places : All (PlaceFits s.table.limit) (first ∷ rest)
-  all-places = subst (All (PlaceFits s.table.limit)) split.1 (spares_fit s)
+  all-places : All (PlaceFits s.table.limit) (spare rest) × (place < s.table.limit)
+  all-places = all_popped _ (spare rest) (blank place) (subst (All (PlaceFits s.table.limit)) split (spares_fit s))
 
   -- so that of the new row is
   pub place_in : place < s.table.limit
-  place_in = let a = all-places.0 in let b = place_is in omega arith
+  place_in = all-places.1
 
   -- no other row has its place
-  apart_at : (k : ℕ) → places (listed s.table) k + (bit first.at k + places rest k) ≤ 1
-  apart_at k = subst (λ fs. places (listed s.table) k + places fs k ≤ 1) split.1 (s.apart k)
+  apart_at : (k : ℕ) → places (listed s.table) k + (places (spare rest) k + bit place k) ≤ 1
+  apart_at k = let a = s.apart k in let b = ap (λ fs. places fs k) split in let d = places_push (spare rest) (blank place) k in omega arith
 
   -- no held row has the place
   others-elsewhere : All (λ r. r.at ≢ place) (listed s.table)
   others-elsewhere =
       places_none (listed s.table) place
-      (let a = apart_at place in let b = bit-same first.at place (sym place_is) in omega arith)
+      (let a = apart_at place in let b = bit-same place place refl in omega arith)
 
-  module _ (frees : spare t ≡ rest) (limit : t.limit ≡ s.table.limit) (vs : List ℕ) (is : vs ≡ paste (words_of s) (width * part_start s.depth place) (drop (width * 0) (words_of s)) (width * s.len)) where
+  module _ (t : Table) (rows : listed t ≡ listed s.table ++ (new ∷ [])) (limit : t.limit ≡ s.table.limit) (vs : List ℕ) (is : vs ≡ paste (words_of s) (width * part_start s.depth place) (drop (width * 0) (words_of s)) (width * s.len)) where
     -- the list fits into the part
     fits : width * (part_start s.depth place + s.len) ≤ length (words_of s)
     fits = let a = part_in s place place_in in let b = s.fits in omega arith
@@ -269,10 +259,10 @@ module _ (s : Copied) (t : Table) (n place : ℕ) (at : place ≡ first_place (s
             (cases_order r.at place)
 
     -- so the store means what a save makes of it
-    pub save_means : (Ok tt, by_rows (read_row vs s.depth) (cells vs 0 s.len) (listed t) s.depth t.limit) ≡ saved (meant s) n
-    save_means =
+    pub save_means : Ok tt ≡ admitted (listed s.table) n → (Ok tt, by_rows (read_row vs s.depth) (cells vs 0 s.len) (listed t) s.depth t.limit) ≡ saved (meant s) n
+    save_means new_name =
         ap (λ m. (Ok tt, by_rows (read_row vs s.depth) (cells vs 0 s.len) (listed t) s.depth m)) limit
-        ∙ saved-row (read_row vs s.depth) (cells vs 0 s.len) (listed s.table) s.depth s.table.limit new (Ok tt) (listed t) save_new answer
+        ∙ saved-row (read_row vs s.depth) (cells vs 0 s.len) (listed s.table) s.depth s.table.limit new (Ok tt) (listed t) save_new (ap (λ rs. (Ok tt, rs)) rows ∙ added-fits s.table.limit (listed s.table) new room_for new_name)
         ∙ ap (λ m. saved m n) (alike (read_row (words_of s) s.depth) (read_row vs s.depth) _ _ (listed s.table) _ s.depth _ _ save_current save_alike refl refl)
 
     -- nothing past the need has changed
@@ -280,9 +270,10 @@ module _ (s : Copied) (t : Table) (n place : ℕ) (at : place ≡ first_place (s
     save_beyond = ap (drop (size s)) is ∙ (let a = part_below s.depth place s.table.limit place_in in let b = s.fits in written-beyond (words_of s) (words_of s) (part_start s.depth place) s.len fits whole (size s) (omega arith))
 
     -- what the fields owe then
-    pub save_owed : Owed (length vs) t s.depth s.len
+    pub save_owed : Owed (length vs) t rest s.depth s.len
     save_owed =
-        owed (length vs) t s.depth s.len s.table.limit _ _ rows frees limit
+        owed (length vs) t rest s.depth s.len s.table.limit _ _ rows refl limit
         (let a = s.room in let b = ap length is ∙ written-long (words_of s) (words_of s) (part_start s.depth place) s.len fits whole in omega arith) s.flat s.fits
-        (λ k. (let a = apart_at k in let b = places_push (listed s.table) new k in let e = ap (λ p. bit p k) place_is in let g : places (listed s.table ++ (new ∷ [])) k + places rest k ≤ 1 = omega arith in g))
-        (All-push _ (listed s.table) new (rows_fit s) (s.fits, place_in)) all-places.1
+        (let a = s.whole in let b = ap length popped in let d = length_push rest place in let e = length_push (listed s.table) new in omega arith)
+        (λ k. (let a = apart_at k in let b = places_push (listed s.table) new k in let g : places (listed s.table ++ (new ∷ [])) k + places (spare rest) k ≤ 1 = omega arith in g))
+        (All-push _ (listed s.table) new (rows_fit s) (s.fits, place_in)) all-places.0

@@ -1,10 +1,10 @@
 -- Cells in words after some of the words were overwritten.
 use Rattle.std.proofs.Common.{◌≡◌, ℕ, ◌+◌, ◌-◌, ◌*◌, ◌<◌, ◌≤◌, min, ◌⊎◌, List, [], ◌∷◌, ◌++◌, map, length, get_or, take, drop, sym, refl, ap, ◌∙◌, inl, inr, mul-le-mul_left, mul-add, arith}
 use lib.Seq.{paste}
-use Rattle.std.specs.List.{range_with_len}
+use Rattle.std.specs.List.{range_with_len, copy_within}
 use Rattle.std.proofs.lemmas.List.FromFn.{length-map-range_with_len, get_or-map-range_with_len}
-use Rattle.std.proofs.lemmas.List.Edits.{length-paste}
-use Rattle.std.proofs.lemmas.List.{same_lists, ext_get_or, length-take, length-drop, length-append, get_or-take, get_or-drop, get_or_append_left, get_or-append_right, take_all}
+use Rattle.std.proofs.lemmas.List.Edits.{length-paste, paste_all}
+use Rattle.std.proofs.lemmas.List.{same_lists, ext_get_or, length-take, length-drop, length-append, get_or-take, get_or-drop, get_or_append_left, get_or-append_right, append_assoc, take_all}
 use Rattle.cell.specs.declared.cell.Cell.{Cell}
 use Rattle.bottom.specs.Limits.{cells_needed}
 use Rattle.cell.specs.Filled.{width}
@@ -104,6 +104,14 @@ cells-from ws from n =
     map_counting_eq _ _ 0 from n (λ k l.
     same_cell (drop (width * from) ws) ws (0 + k) (from + k) (let e = length-drop (width * from) ws in omega arith)
     (λ r h. get_or-drop (width * from) ws (width * (0 + k) + r) 0 ∙ ap (λ i. get_or ws i 0) (let q : width * from + (width * (0 + k) + r) ≡ width * (from + k) + r = omega arith in q)))
+
+-- so many cells copied within the words
+pub copied_cells : (ws : List ℕ) (from to n : ℕ) → copy_within ws (width * from) (width * (from + n)) (width * to) ≡ paste ws (width * to) (drop (width * from) ws) (width * n)
+copied_cells ws from to n = let e : width * (from + n) - width * from ≡ width * n = omega arith in ap (paste ws (width * to) (drop (width * from) ws)) e
+
+-- a cell put over the one at an index
+pub put_cell : (ws : List ℕ) (i : ℕ) (c : Cell) → length c.words ≡ width → (take (width * i) ws ++ c.words) ++ drop (width * (i + 1)) ws ≡ paste ws (width * i) c.words width
+put_cell ws i c l = let e : width * (i + 1) ≡ width * i + width = omega arith in ap (λ k. (take (width * i) ws ++ c.words) ++ drop k ws) e ∙ append_assoc (take (width * i) ws) c.words (drop (width * i + width) ws) ∙ sym (paste_all ws (width * i) c.words width (sym l))
 
 -- the cell of its own words
 pub own_cell : (c : Cell) → length c.words ≡ width → cells c.words 0 1 ≡ c ∷ []

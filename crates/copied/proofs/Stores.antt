@@ -1,20 +1,37 @@
 -- The facts of a copied stack, from its fields and back to them.
-use Rattle.std.proofs.Common.{◌≡◌, ℕ, zero, suc, ◌+◌, ◌*◌, ◌<◌, ◌≤◌, true, List, map, vec_items, sym, refl, subst, ⊎_elim, arith}
-use Rattle.std.specs.List.{range_with_len, AllByRecursion as All}
+use Rattle.std.proofs.Common.{◌≡◌, ℕ, zero, suc, ◌+◌, ◌*◌, ◌<◌, ◌≤◌, true, List, ◌++◌, map, length, take, drop, vec_items, vec_len, sym, refl, ap, ◌∙◌, subst, ⊎_elim, arith}
+use Rattle.std.specs.List.{range_with_len, copy_within, AllByRecursion as All}
+use lib.Seq.{paste}
+use Rattle.std.proofs.lemmas.List.{with_items_is}
+use Rattle.std.specs.Vec.{with_items}
 use Rattle.std.proofs.lemmas.Bool.{cases_eq, and_parts, and_from, leb-true, le-leb, ltb-true, lt-ltb}
 use Rattle.bottom.specs.declared.row.Row.{Row}
 use Rattle.bottom.specs.declared.table.Table.{Table}
 use Rattle.bottom.specs.Limits.{cells_needed}
 use Rattle.bottom.specs.Rows.{blank, bit, places, every}
-use Rattle.bottom.specs.Tables.{listed, spare}
+use Rattle.bottom.specs.Tables.{listed}
 use Rattle.bottom.proofs.Rows.{bit_other, bit_le, every-from, every_to}
 use Rattle.copied.specs.declared.copied.Copied.{Copied}
 use Rattle.cell.specs.Filled.{width}
-use Rattle.copied.specs.Parts.{Apart, row_fits, place_fits}
+use Rattle.cell.specs.declared.cell.Cell.{Cell}
+use Rattle.copied.proofs.Regions.{copied_cells, put_cell}
+use Rattle.copied.specs.Parts.{Apart, spare, row_fits, place_fits}
 
 -- the words of a store
 abbrev pub words_of : Copied → List ℕ
 words_of s = vec_items s.memory
+
+-- its words after some cells were copied within them
+pub words_copied : (s : Copied) (us xs : List ℕ) (from to n a b : ℕ) → length us ≡ vec_len s.memory → us ≡ copy_within xs (width * from) (width * (from + n)) (width * to) → xs ≡ words_of s → from ≡ a → to ≡ b
+    → vec_items (with_items s.memory us) ≡ paste (words_of s) (width * b) (drop (width * a) (words_of s)) (width * n)
+words_copied s us xs from to n a b long is same at onto =
+    with_items_is s.memory us long ∙ is ∙ ap (λ ys. copy_within ys (width * from) (width * (from + n)) (width * to)) same
+    ∙ ap (λ k. copy_within (words_of s) (width * k) (width * (k + n)) (width * to)) at ∙ ap (λ k. copy_within (words_of s) (width * a) (width * (a + n)) (width * k)) onto ∙ copied_cells (words_of s) a b n
+
+-- and after a cell was put there
+pub words_put : (s : Copied) (us xs : List ℕ) (i : ℕ) (c : Cell) → length us ≡ vec_len s.memory → us ≡ (take (width * i) xs ++ c.words) ++ drop (width * (i + 1)) xs → xs ≡ words_of s → length c.words ≡ width
+    → vec_items (with_items s.memory us) ≡ paste (words_of s) (width * i) c.words width
+words_put s us xs i c long is same whole = with_items_is s.memory us long ∙ is ∙ ap (λ ys. (take (width * i) ys ++ c.words) ++ drop (width * (i + 1)) ys) same ∙ put_cell (words_of s) i c whole
 
 -- a row whose part is there, and whose list is no longer than the depth limit
 abbrev pub RowFits : ℕ → ℕ → Row → Type 0
@@ -29,31 +46,33 @@ pub rows_fit : (s : Copied) → All (RowFits s.depth s.table.limit) (listed s.ta
 rows_fit s = every-from _ _ (λ r e. (let b = and_parts _ _ e in (leb-true r.len s.depth b.0, ltb-true r.at s.table.limit b.1))) (listed s.table) s.fitting
 
 -- the part of every free row is there
-pub spares_fit : (s : Copied) → All (PlaceFits s.table.limit) (spare s.table)
-spares_fit s = every-from _ _ (λ r e. ltb-true r.at s.table.limit e) (spare s.table) s.free
+pub spares_fit : (s : Copied) → All (PlaceFits s.table.limit) (spare s.free.items)
+spares_fit s = every-from _ _ (λ r e. ltb-true r.at s.table.limit e) (spare s.free.items) s.placed
 
 -- what the fields of a store over so many words owe
-abbrev pub Owed : ℕ → Table → ℕ → ℕ → Type 0
-Owed long t depth len =
+abbrev pub Owed : ℕ → Table → List ℕ → ℕ → ℕ → Type 0
+Owed long t free depth len =
     record {
       room : width * cells_needed depth t.limit ≤ long;
       flat : depth ≤ 4096;
       fits : len ≤ depth;
-      apart : Apart (listed t) (spare t);
+      whole : length (listed t) + length free ≡ t.limit;
+      apart : Apart (listed t) (spare free);
       fitting : every (row_fits depth t.limit) (listed t) ≡ true;
-      free : every (place_fits t.limit) (spare t) ≡ true;
+      placed : every (place_fits t.limit) (spare free) ≡ true;
     }
 
 -- a table with these rows and this limit owes what they do
-module _ (long : ℕ) (t : Table) (depth len limit : ℕ) (rs fs : List Row) (rows : listed t ≡ rs) (frees : spare t ≡ fs) (is : t.limit ≡ limit) where
-  pub owed : width * cells_needed depth limit ≤ long → depth ≤ 4096 → len ≤ depth → Apart rs fs → All (RowFits depth limit) rs → All (PlaceFits limit) fs → Owed long t depth len
-  owed room flat fits apart fitting free = record {
+module _ (long : ℕ) (t : Table) (free : List ℕ) (depth len limit : ℕ) (rs : List Row) (fs : List ℕ) (rows : listed t ≡ rs) (frees : free ≡ fs) (is : t.limit ≡ limit) where
+  pub owed : width * cells_needed depth limit ≤ long → depth ≤ 4096 → len ≤ depth → length rs + length fs ≡ limit → Apart rs (spare fs) → All (RowFits depth limit) rs → All (PlaceFits limit) (spare fs) → Owed long t free depth len
+  owed room flat fits whole apart fitting placed = record {
     room = subst (λ m. width * cells_needed depth m ≤ long) (sym is) room;
     flat = flat;
     fits = fits;
-    apart = λ k. subst (λ xs. places xs k + places (spare t) k ≤ 1) (sym rows) (subst (λ ys. places rs k + places ys k ≤ 1) (sym frees) (apart k));
+    whole = let a = ap length rows in let b = ap length frees in omega arith;
+    apart = λ k. subst (λ xs. places xs k + places (spare free) k ≤ 1) (sym rows) (subst (λ ys. places rs k + places (spare ys) k ≤ 1) (sym frees) (apart k));
     fitting = every_to _ _ (λ r f. and_from _ _ (le-leb r.len depth f.0) (lt-ltb r.at t.limit f.1)) (listed t) (subst (All (RowFits depth t.limit)) (sym rows) (subst (λ m. All (RowFits depth m) rs) (sym is) fitting));
-    free = every_to _ _ (λ r f. lt-ltb r.at t.limit f) (spare t) (subst (All (PlaceFits t.limit)) (sym frees) (subst (λ m. All (PlaceFits m) fs) (sym is) free));
+    placed = every_to _ _ (λ r f. lt-ltb r.at t.limit f) (spare free) (subst (λ ys. All (PlaceFits t.limit) (spare ys)) (sym frees) (subst (λ m. All (PlaceFits m) (spare fs)) (sym is) placed));
   }
 
 -- the rows of a new table have places of their own

@@ -1,9 +1,9 @@
 -- The parts of a copied stack's memory: the current list first, and then one part, as long as the depth limit, for each row.
-use Rattle.std.specs.Prelude.{ℕ, ◌+◌, ◌≤◌, Bool, ◌&&◌, List, nat_le, nat_lt}
+use Rattle.std.specs.Prelude.{ℕ, ◌+◌, ◌≤◌, Bool, ◌&&◌, List, map, nat_le, nat_lt}
 use Rattle.cell.specs.declared.cell.Cell.{Cell}
 use Rattle.bottom.specs.declared.row.Row.{Row}
 use Rattle.bottom.specs.Limits.{cells_needed}
-use Rattle.bottom.specs.Rows.{places}
+use Rattle.bottom.specs.Rows.{blank, places}
 use Rattle.copied.specs.Cells.{cells}
 
 -- where the part of a place begins: behind the current list and the parts of the places before it
@@ -13,6 +13,10 @@ part_start depth place = cells_needed depth place
 -- the list that lies in the part of a row
 abbrev pub read_row : List ℕ → ℕ → Row → List Cell
 read_row ws depth r = cells ws (part_start depth r.at) r.len
+
+-- the free rows: at each free place one without a name
+abbrev pub spare : List ℕ → List Row
+spare free = map blank free
 
 -- no two rows have one place, whether they are held or free
 abbrev pub Apart : List Row → List Row → Type 0

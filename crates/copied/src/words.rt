@@ -1,6 +1,6 @@
 //! Cells in a memory of words.
-ghost use Rattle.std.specs.Prelude.{◌≡◌, ◌+◌, ◌*◌, ◌≤◌, length, drop};
-ghost use Rattle.std.proofs.Math.Seq.{paste};
+ghost use Rattle.std.specs.Prelude.{◌≡◌, ◌+◌, ◌*◌, ◌≤◌, ◌++◌, length, take, drop};
+ghost use Rattle.std.specs.List.{copy_within};
 ghost use Rattle.cell.specs.Filled.{width};
 ghost use Rattle.copied.specs.Cells.{cell_at};
 
@@ -20,7 +20,7 @@ pub fn read_cell(memory: &[u32], index: usize) -> Cell
 /// Writes the cell at an index.
 pub fn write_cell(memory: &mut [u32], index: usize, cell: Cell)
     requires { width * (index + 1) ≤ length memory.old }
-    ensures { memory.new ≡ paste memory.old (width * index) cell.words width }
+    ensures { memory.new ≡ take (width * index) memory.old ++ cell.words ++ drop (width * (index + 1)) memory.old }
 {
     let at = WIDTH * index;
     memory[at..at + WIDTH].copy_from_slice(&cell.words);
@@ -30,7 +30,7 @@ pub fn write_cell(memory: &mut [u32], index: usize, cell: Cell)
 pub fn copy_cells(memory: &mut [u32], from: usize, to: usize, count: usize)
     requires source { width * (from + count) ≤ length memory.old }
     requires target { width * (to + count) ≤ length memory.old }
-    ensures { memory.new ≡ paste memory.old (width * to) (drop (width * from) memory.old) (width * count) }
+    ensures { memory.new ≡ copy_within memory.old (width * from) (width * (from + count)) (width * to) }
 {
     let start = WIDTH * from;
     let end = WIDTH * (from + count);

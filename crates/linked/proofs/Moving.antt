@@ -1,6 +1,6 @@
 -- What it does to the lists that one node is shared, left or freed.
 use Rattle.std.proofs.Common.{◌≡◌, ℕ, zero, suc, ◌+◌, ◌-◌, ◌<◌, ◌≤◌, ◌≢◌, List, length, get_or, set, sym, refl, ap, ◌∙◌, subst, ⊎_elim, arith, length-set}
-use Rattle.std.proofs.lemmas.List.{drop-set-lt, get_or_default}
+use Rattle.std.proofs.lemmas.List.{drop-set-lt, get_or_default, set-get_or}
 use Rattle.std.proofs.lemmas.Bool.{cases_eq}
 use Rattle.bottom.specs.Rows.{bit}
 use Rattle.bottom.proofs.Rows.{bit-same, bit_other}
@@ -183,6 +183,10 @@ module _ (ns : List Node) (p depth f t n : ℕ) (R : ℕ → ℕ) (H : Holds ns 
 -- a node as it was read
 pub read_node : (ns : List Node) (k : ℕ) (r : Node) → k < length ns → r ≡ get_or ns k r → r ≡ node_at ns k
 read_node ns k r l e = e ∙ get_or_default ns k r no_node l
+
+-- a node that is as it was
+pub set_read : (ns : List Node) (k : ℕ) (r : Node) → r ≡ get_or ns k r → set ns k r ≡ ns
+set_read ns k r e = ap (set ns k) e ∙ set-get_or ns k r
 
 -- the same moves, by the top node r as it was read
 module _ (ns : List Node) (p depth f t n : ℕ) (R : ℕ → ℕ) (H : Holds ns p depth f t n R) (some : 0 < n) (r : Node) (is : r ≡ node_at ns t) where

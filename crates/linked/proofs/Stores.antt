@@ -1,5 +1,5 @@
 -- The facts of a linked store, from its fields and back to them.
-use Rattle.std.proofs.Common.{◌≡◌, ℕ, ◌+◌, ◌^◌, ◌<◌, ◌≤◌, true, List, ◌∷◌, length, vec_items, vec_len, sym, subst, arith}
+use Rattle.std.proofs.Common.{◌≡◌, ℕ, ◌+◌, ◌^◌, ◌<◌, ◌≤◌, true, List, ◌∷◌, length, vec_items, sym, subst, arith}
 use Rattle.std.proofs.lemmas.Bool.{and_parts, and_from, leb-true, le-leb}
 use Rattle.bottom.specs.declared.row.Row.{Row}
 use Rattle.bottom.specs.declared.table.Table.{Table}
@@ -7,7 +7,6 @@ use Rattle.bottom.specs.Limits.{cells_needed}
 use Rattle.bottom.specs.Rows.{places, every}
 use Rattle.bottom.specs.Tables.{listed}
 use Rattle.bottom.proofs.Rows.{every-from, every_to}
-use Rattle.bottom.proofs.Tables.{length-listed}
 use Rattle.linked.specs.declared.linked.Linked.{Linked}
 use Rattle.linked.specs.declared.node.Node.{Node}
 use Rattle.linked.specs.Chains.{node_at, total, unheld, lists, row_fits, Counted, Shallow, all_free}
@@ -18,11 +17,11 @@ use Rattle.linked.proofs.Moving.{ends-within}
 
 -- the nodes of a store
 abbrev pub nodes_of : Linked → List Node
-nodes_of s = vec_items s.nodes
+nodes_of s = vec_items s.pool.nodes
 
 -- its lists
 abbrev pub lists_of : Linked → List Row
-lists_of s = lists s.top s.len s.table
+lists_of s = lists s.current.top s.current.len s.table
 
 -- a test that is passed
 fit-from : (ns : List Node) (p depth : ℕ) (r : Row) → row_fits ns p depth r ≡ true → Fits ns p depth r
@@ -33,10 +32,10 @@ fit_to : (ns : List Node) (p depth : ℕ) (r : Row) → Fits ns p depth r → ro
 fit_to ns p depth r f = and_from _ _ (le-leb r.len depth f.0) (ends_to ns p r.len r.at f.1)
 
 -- the facts of a store
-pub facts_of : (s : Linked) → Facts (nodes_of s) (size s) s.depth s.free (lists_of s)
+pub facts_of : (s : Linked) → Facts (nodes_of s) (size s) s.depth s.pool.free (lists_of s)
 facts_of s =
     record {
-      sound = record { counted = s.counted; shallow = s.shallow; free = free-from (nodes_of s) (size s) (total (unheld (nodes_of s)) (size s)) s.free s.spare };
+      sound = record { counted = s.counted; shallow = s.shallow; free = free-from (nodes_of s) (size s) (total (unheld (nodes_of s)) (size s)) s.pool.free s.spare };
       fitting = every-from _ _ (fit-from (nodes_of s) (size s) s.depth) (lists_of s) s.fitting;
       room = s.room;
     }
@@ -70,26 +69,19 @@ owed ns t depth f top len p rs rows need flat F =
 pub in_nodes : (s : Linked) (k : ℕ) → k < size s → k < length (nodes_of s)
 in_nodes s k l = let b = s.room in omega arith
 
--- and in the memory
-pub within_len : (s : Linked) (k : ℕ) → k < size s → k < vec_len s.nodes
-within_len s k l = let a = s.nodes.ok.0 in let b = s.room in omega arith
-
 -- the top of a list that is not empty is needed
-pub top_in : (s : Linked) → 0 < s.len → s.top < size s
-top_in s l = ends-within (nodes_of s) (size s) s.top s.len l (facts_of s).fitting.0.1
+pub top_in : (s : Linked) → 0 < s.current.len → s.current.top < size s
+top_in s l = ends-within (nodes_of s) (size s) s.current.top s.current.len l (facts_of s).fitting.0.1
 
 -- a push below the depth limit finds a free node
-pub free_in : (s : Linked) → s.len < s.depth → s.free < size s
+pub free_in : (s : Linked) → s.current.len < s.depth → s.pool.free < size s
 free_in s l =
-    let n = length-listed s.table in
-    let h : length (listed s.table) ≤ s.table.limit = let a = s.table.some in omega arith in
-    free-within (nodes_of s) (size s) s.depth s.free s.top s.len (listed s.table) (facts_of s) (room-left s.depth s.table.limit (length (listed s.table)) s.len h l)
+    free-within (nodes_of s) (size s) s.depth s.pool.free s.current.top s.current.len (listed s.table) (facts_of s) (room-left s.depth s.table.limit (length (listed s.table)) s.current.len s.table.some l)
 
 -- a count of holders has room to grow, by far
 pub holders_fit : (s : Linked) (k : ℕ) → k < size s → (node_at (nodes_of s) k).holders + 1 < 2 ^ 32
 holders_fit s k l =
-    let a = holders_small (nodes_of s) (size s) s.depth s.free (lists_of s) (facts_of s) k l in
+    let a = holders_small (nodes_of s) (size s) s.depth s.pool.free (lists_of s) (facts_of s) k l in
     let b = needed_small s.depth s.table.limit s.flat s.table.few in
-    let n = length-listed s.table in
     let c = s.table.few in let d = s.table.some in
     omega arith

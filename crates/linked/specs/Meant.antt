@@ -20,8 +20,8 @@ size s = cells_needed s.depth s.table.limit
 
 -- the meaning of a store
 abbrev pub meant : Linked → Meaning Cell
-meant s = by_rows (read_row (vec_items s.nodes)) (cells (vec_items s.nodes) s.top s.len) (listed s.table) s.depth s.table.limit
+meant s = by_rows (read_row (vec_items s.pool.nodes)) (cells (vec_items s.pool.nodes) s.current.top s.current.len) (listed s.table) s.depth s.table.limit
 
 -- how many nodes a store needs, and those past them
 abbrev pub fixed_of : Linked → ℕ × List Node
-fixed_of s = (size s, drop (size s) (vec_items s.nodes))
+fixed_of s = (size s, drop (size s) (vec_items s.pool.nodes))

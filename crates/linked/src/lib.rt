@@ -2,6 +2,7 @@
 //! It rests on `cell`, `store` and `bottom`.
 #![tactic(auto)]
 
+mod chain;
 pub mod linked;
 pub mod node;
-mod nodes;
+mod pool;

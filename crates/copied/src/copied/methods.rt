@@ -1,15 +1,17 @@
 //! The calls on a copied stack.
-ghost use Rattle.std.specs.Prelude.{◌≡◌, ◌*◌, length};
+ghost use Rattle.std.specs.Prelude.{◌≡◌, ◌*◌, ◌<◌, ◌≤◌, length};
+ghost use Rattle.store.specs.Meaning.{with_current};
 ghost use Rattle.bottom.specs.Limits.{accepted, cells_needed, split_at};
 ghost use Rattle.bottom.specs.Meant.{opened};
 ghost use Rattle.cell.specs.Filled.{width};
 ghost use Rattle.copied.specs.Meant.{meant, fixed_of};
+ghost use Rattle.copied.specs.Parts.{read_row};
 
 use crate::copied::Copied;
 use crate::words;
-use bottom::limits;
 use bottom::row::Row;
 use bottom::table::Table;
+use bottom::{limits, places};
 use cell::cell::{Cell, WIDTH};
 use cell::name::Name;
 use store::refusal::Refusal;
@@ -21,20 +23,12 @@ impl Copied {
         ensures meaning { meant result ≡ opened (accepted (length memory.items) (width * cells_needed depth held) depth held) depth held }
         ensures memory { fixed_of result ≡ split_at (accepted (length memory.items) (width * cells_needed depth held) depth held) (width * cells_needed depth held) memory.items }
     {
-        if limits::are_in_range(depth, held)
-            && WIDTH * limits::cells_needed(depth, held) <= memory.len()
-        {
-            return Copied {
-                memory,
-                table: Table::new(held),
-                depth,
-                len: 0,
-            };
-        }
+        let (depth, held) = limits::granted(memory.len() / WIDTH, depth, held);
         Copied {
             memory,
-            table: Table::new(0),
-            depth: 0,
+            table: Table::new(held),
+            free: places::first(held),
+            depth,
             len: 0,
         }
     }
@@ -46,10 +40,22 @@ impl Copied {
         let Copied {
             memory,
             table: _,
+            free: _,
             depth: _,
             len: _,
         } = self;
         memory
+    }
+
+    /// Makes the list of a row current.
+    fn load(&mut self, row: Row)
+        requires { (row.len ≤ self.old.depth) × (row.at < self.old.table.limit) }
+        ensures meaning { meant self.new ≡ with_current (meant self.old) (read_row self.old.memory.items self.old.depth row) }
+        ensures memory { fixed_of self.new ≡ fixed_of self.old }
+    {
+        let start = limits::cells_needed(self.depth, row.at);
+        words::copy_cells(self.memory.as_mut_slice(), start, 0, row.len as usize);
+        self.len = row.len;
     }
 }
 
@@ -78,41 +84,34 @@ impl Store for Copied {
     }
 
     fn save(&mut self, name: Name) -> Result<(), Refusal> {
-        let place = self.table.next_place();
-        self.table.add(Row {
+        self.table.admit(name)?;
+        let place = self.free.pop().ok_or(Refusal::HeldFull)?;
+        self.table.push(Row {
             name,
             at: place,
             len: self.len,
-        })?;
+        });
         let start = limits::cells_needed(self.depth, place);
         words::copy_cells(self.memory.as_mut_slice(), 0, start, self.len as usize);
         Ok(())
     }
 
     fn restore(&mut self, name: Name) -> Result<(), Refusal> {
-        let Some(row) = self.table.get(name) else {
-            return Err(Refusal::NotHeld);
-        };
-        let start = limits::cells_needed(self.depth, row.at);
-        words::copy_cells(self.memory.as_mut_slice(), start, 0, row.len as usize);
-        self.len = row.len;
+        let row = self.table.get(name)?;
+        self.load(row);
         Ok(())
     }
 
     fn take(&mut self, name: Name) -> Result<(), Refusal> {
-        let Some(row) = self.table.remove(name) else {
-            return Err(Refusal::NotHeld);
-        };
-        let start = limits::cells_needed(self.depth, row.at);
-        words::copy_cells(self.memory.as_mut_slice(), start, 0, row.len as usize);
-        self.len = row.len;
+        let row = self.table.remove(name)?;
+        self.free.push(row.at);
+        self.load(row);
         Ok(())
     }
 
     fn release(&mut self, name: Name) -> Result<(), Refusal> {
-        let Some(_) = self.table.remove(name) else {
-            return Err(Refusal::NotHeld);
-        };
+        let row = self.table.remove(name)?;
+        self.free.push(row.at);
         Ok(())
     }
 
@@ -124,16 +123,12 @@ impl Store for Copied {
     }
 
     fn saved_len(&self, name: Name) -> Result<u32, Refusal> {
-        let Some(row) = self.table.get(name) else {
-            return Err(Refusal::NotHeld);
-        };
+        let row = self.table.get(name)?;
         Ok(row.len)
     }
 
     fn saved_cell(&self, name: Name, index: u32) -> Result<Cell, Refusal> {
-        let Some(row) = self.table.get(name) else {
-            return Err(Refusal::NotHeld);
-        };
+        let row = self.table.get(name)?;
         if index >= row.len {
             return Err(Refusal::NoIndex);
         }

@@ -6,9 +6,10 @@ ghost use Rattle.bottom.specs.Meant.{opened};
 ghost use Rattle.linked.specs.Chains.{ends, cells};
 ghost use Rattle.linked.specs.Meant.{meant, fixed_of};
 
+use crate::chain::{Chain, END};
 use crate::linked::Linked;
 use crate::node::Node;
-use crate::nodes;
+use crate::pool::Pool;
 use bottom::limits;
 use bottom::row::Row;
 use bottom::table::Table;
@@ -23,59 +24,42 @@ impl Linked {
         ensures meaning { meant result ≡ opened (accepted (length memory.items) (cells_needed depth held) depth held) depth held }
         ensures memory { fixed_of result ≡ split_at (accepted (length memory.items) (cells_needed depth held) depth held) (cells_needed depth held) memory.items }
     {
-        let mut nodes = memory;
+        let (depth, held) = limits::granted(memory.len(), depth, held);
         let size = limits::cells_needed(depth, held);
-        if limits::are_in_range(depth, held) && size <= nodes.len() {
-            nodes::link_free(&mut nodes, size);
-            return Linked {
-                nodes,
-                table: Table::new(held),
-                depth,
-                free: 0,
-                top: nodes::END,
-                len: 0,
-            };
-        }
         Linked {
-            nodes,
-            table: Table::new(0),
-            depth: 0,
-            free: 0,
-            top: nodes::END,
-            len: 0,
+            pool: Pool::new(memory, size),
+            table: Table::new(held),
+            depth,
+            current: Chain { top: END, len: 0 },
         }
     }
 
     /// Ends the store, and hands the memory back.
     pub fn into_memory(self) -> Vec<Node>
-        ensures { result ≡ self.nodes }
+        ensures { result ≡ self.pool.nodes }
     {
         let Linked {
-            nodes,
+            pool: Pool { nodes, free: _ },
             table: _,
             depth: _,
-            free: _,
-            top: _,
-            len: _,
+            current: _,
         } = self;
         nodes
     }
 
     /// The cell at an index of a list.
-    fn cell_of(&self, top: u32, len: u32, index: u32) -> Result<Cell, Refusal>
-        requires { ends self.now.nodes.items (cells_needed self.now.depth self.now.table.limit) top len ≡ true }
-        ensures { result ≡ cell_in (cells self.now.nodes.items top len) index }
+    fn cell_of(&self, list: Chain, index: u32) -> Result<Cell, Refusal>
+        requires { ends self.now.pool.nodes.items (cells_needed self.now.depth self.now.table.limit) list.top list.len ≡ true }
+        ensures { result ≡ cell_in (cells self.now.pool.nodes.items list.top list.len) index }
     {
-        if index >= len {
+        if index >= list.len {
             return Err(Refusal::NoIndex);
         }
-        let mut at = top;
-        let mut above = len - 1;
-        while above > index {
-            at = self.nodes[at as usize].link;
-            above -= 1;
+        let mut at = list.top;
+        for _ in index + 1..list.len {
+            at = self.pool.nodes[at as usize].link;
         }
-        Ok(self.nodes[at as usize].cell)
+        Ok(self.pool.nodes[at as usize].cell)
     }
 }
 
@@ -87,87 +71,72 @@ impl Store for Linked {
     ghost fixed = { fixed_of };
 
     fn push(&mut self, cell: Cell) -> Result<(), Refusal> {
-        if self.len >= self.depth {
+        if self.current.len >= self.depth {
             return Err(Refusal::Full(0));
         }
-        let at = self.free;
-        self.free = self.nodes[at as usize].link;
-        self.nodes[at as usize] = Node {
-            cell,
-            link: self.top,
-            holders: 1,
-        };
-        self.top = at;
-        self.len += 1;
+        self.current = self.pool.push(self.current, cell);
         Ok(())
     }
 
     fn pop(&mut self) -> Result<Cell, Refusal> {
-        if self.len == 0 {
+        if self.current.len == 0 {
             return Err(Refusal::Empty);
         }
-        let node = self.nodes[self.top as usize];
-        self.free = nodes::drop_top(&mut self.nodes, self.free, self.top, self.len);
-        self.top = node.link;
-        self.len -= 1;
+        let node = self.pool.nodes[self.current.top as usize];
+        self.pool.drop_top(self.current);
+        self.current = Chain {
+            top: node.link,
+            len: self.current.len - 1,
+        };
         Ok(node.cell)
     }
 
     fn save(&mut self, name: Name) -> Result<(), Refusal> {
         self.table.add(Row {
             name,
-            at: self.top,
-            len: self.len,
+            at: self.current.top,
+            len: self.current.len,
         })?;
-        nodes::share(&mut self.nodes, self.top, self.len);
+        self.pool.share(self.current);
         Ok(())
     }
 
     fn restore(&mut self, name: Name) -> Result<(), Refusal> {
-        let Some(row) = self.table.get(name) else {
-            return Err(Refusal::NotHeld);
-        };
-        nodes::share(&mut self.nodes, row.at, row.len);
-        self.free = nodes::let_go(&mut self.nodes, self.free, self.top, self.len);
-        self.top = row.at;
-        self.len = row.len;
+        let row = self.table.get(name)?;
+        let list = Chain::from(row);
+        self.pool.share(list);
+        self.pool.let_go(self.current);
+        self.current = list;
         Ok(())
     }
 
     fn take(&mut self, name: Name) -> Result<(), Refusal> {
-        let Some(row) = self.table.remove(name) else {
-            return Err(Refusal::NotHeld);
-        };
-        self.free = nodes::let_go(&mut self.nodes, self.free, self.top, self.len);
-        self.top = row.at;
-        self.len = row.len;
+        let row = self.table.remove(name)?;
+        self.pool.let_go(self.current);
+        self.current = Chain::from(row);
         Ok(())
     }
 
     fn release(&mut self, name: Name) -> Result<(), Refusal> {
-        let Some(row) = self.table.remove(name) else {
-            return Err(Refusal::NotHeld);
-        };
-        self.free = nodes::let_go(&mut self.nodes, self.free, row.at, row.len);
+        let row = self.table.remove(name)?;
+        let list = Chain::from(row);
+        self.pool.let_go(list);
         Ok(())
     }
 
     fn cell_at(&self, index: u32) -> Result<Cell, Refusal> {
-        self.cell_of(self.top, self.len, index)
+        self.cell_of(self.current, index)
     }
 
     fn saved_len(&self, name: Name) -> Result<u32, Refusal> {
-        let Some(row) = self.table.get(name) else {
-            return Err(Refusal::NotHeld);
-        };
+        let row = self.table.get(name)?;
         Ok(row.len)
     }
 
     fn saved_cell(&self, name: Name, index: u32) -> Result<Cell, Refusal> {
-        let Some(row) = self.table.get(name) else {
-            return Err(Refusal::NotHeld);
-        };
-        self.cell_of(row.at, row.len, index)
+        let row = self.table.get(name)?;
+        let list = Chain::from(row);
+        self.cell_of(list, index)
     }
 
     fn held(&self) -> u32 {
@@ -179,7 +148,7 @@ impl Store for Linked {
     }
 
     fn len(&self) -> u32 {
-        self.len
+        self.current.len
     }
 
     fn depth_limit(&self) -> u32 {

@@ -1,48 +1,23 @@
-use Rattle.std.proofs.Common.{ℕ, ◌++◌, sym, refl, ap, ◌∙◌, arith, rules}
-use Rattle.std.specs.Option.{option_to_list}
-use Rattle.std.proofs.lemmas.List.{length-take, length-drop}
-use Rattle.bottom.specs.Tables.{spare}
-use Rattle.bottom.proofs.Tables.{hit, miss, length_moved, remove_listed, remove_spare}
+use Rattle.std.proofs.Common.{Ok, sym, refl, ap, ◌∙◌, rules}
+use Rattle.std.specs.Option.{ok_or}
+use Rattle.store.specs.declared.refusal.Refusal.TheVariants.{NotHeld}
+use Rattle.std.proofs.lemmas.List.{get_or_default}
+use Rattle.bottom.specs.Rows.{blank}
+use Rattle.bottom.specs.Tables.{listed}
+use Rattle.bottom.proofs.Tables.{hit_ok, miss_err}
 use Rattle.bottom.proofs.table.Table.remove.Goals as goal
 
 pub returns-in_err-i : goal.returns-in_err-i
 returns-in_err-i c =
-    let none = miss c.args.self.now c.args.name.0 c.in_err-i.ensures in
-    record { row = c.from_residual.ensures ∙ sym none.0; rows = sym none.1; spare = sym (ap (λ o. option_to_list o ++ spare c.args.self.now) c.from_residual.ensures); limit = refl }
-
-pub bounds-self-i : goal.bounds-self-i
-bounds-self-i c = let h = (hit c.args.self.now c.args.name.0 c.in_ok-i.i c.in_ok-i.ensures).within in omega arith
-
-pub offset_bounds-self-i : goal.offset_bounds-self-i
-offset_bounds-self-i c = let h = (hit c.args.self.now c.args.name.0 c.in_ok-i.i c.in_ok-i.ensures).within in omega arith
-
-pub offset_bounds-self-i-2 : goal.offset_bounds-self-i-2
-offset_bounds-self-i-2 c = let h = (hit c.args.self.now c.args.name.0 c.in_ok-i.i c.in_ok-i.ensures).within in omega arith
-
-pub slice_bounds-rotate_left-count : goal.slice_bounds-rotate_left-count
-slice_bounds-rotate_left-count c = let h = (hit c.args.self.now c.args.name.0 c.in_ok-i.i c.in_ok-i.ensures).within in omega arith
-
-pub slice_bounds-rotate_left-start : goal.slice_bounds-rotate_left-start
-slice_bounds-rotate_left-start c = let h = (hit c.args.self.now c.args.name.0 c.in_ok-i.i c.in_ok-i.ensures).within in search rules
-
-pub rotate_left-requires : goal.rotate_left-requires
-rotate_left-requires c = let h = (hit c.args.self.now c.args.name.0 c.in_ok-i.i c.in_ok-i.ensures).within in simp (length-take, length-drop) (omega arith)
-
-pub invariant_of-self : goal.invariant_of-self
-invariant_of-self c =
-    let t = c.args.self.now in
-    let i : ℕ = c.in_ok-i.i in
-    let h = (hit c.args.self.now c.args.name.0 c.in_ok-i.i c.in_ok-i.ensures).within in
-    record { sized = length_moved t.rows c.rotate_left.new.self i t.held h (omega arith) c.rotate_left.ensures.after ∙ t.sized; some = omega arith; few = t.few }
+    let m = miss_err (listed c.args.self.now) c.args.name.0 c.find.result c.find.ensures c.in_err-i.field-0.0 c.in_err-i.ensures.value in
+    record { row = let r = m.0 in let e = c.from_residual.ensures in search rules; rows = sym m.1; limit = refl }
 
 pub returns : goal.returns
 returns c =
     let t = c.args.self.now in
-    let i : ℕ = c.in_ok-i.i in
-    let h = hit c.args.self.now c.args.name.0 c.in_ok-i.i c.in_ok-i.ensures in
+    let h = hit_ok (listed t) c.args.name.0 c.find.result c.find.ensures c.in_ok-i.i c.in_ok-i.ensures.value in
     record {
-      row = sym h.under;
-      rows = remove_listed t.rows c.rotate_left.new.self i t.held h.within (omega arith) c.rotate_left.ensures.after ∙ sym h.rest;
-      spare = remove_spare t.rows c.rotate_left.new.self i t.held h.within (omega arith) c.rotate_left.ensures.after t.limit t.some;
+      row = ap Ok (c.remove.ensures.value ∙ get_or_default (listed t) c.in_ok-i.i _ (blank 0) h.within) ∙ sym (ap (λ u. ok_or u NotHeld) h.under);
+      rows = c.remove.ensures.items ∙ sym h.rest;
       limit = refl;
     }

@@ -1,4 +1,4 @@
-use Rattle.std.proofs.Common.{◌≡◌, ℕ, suc, ◌-◌, ◌<◌, true, Some, sym, ap, ◌∙◌, subst, arith}
+use Rattle.std.proofs.Common.{◌≡◌, ℕ, suc, ◌+◌, ◌-◌, ◌<◌, true, Some, sym, ap, ◌∙◌, subst, arith}
 use Rattle.std.specs.List.{slice_get}
 use Rattle.std.specs.Option.{ok_or}
 use Rattle.std.proofs.lemmas.Option.{slice_get_past}
@@ -7,41 +7,29 @@ use Rattle.linked.specs.declared.linked.Linked.{Linked}
 use Rattle.store.specs.declared.refusal.Refusal.TheVariants.{NoIndex}
 use Rattle.linked.specs.Chains.{node_at, cells, ends}
 use Rattle.linked.proofs.Changes.{ends-from, ends_to}
-use Rattle.linked.proofs.Facts.{length-cells, needed_small, cell_down, cell_top}
+use Rattle.linked.proofs.Facts.{length-cells, cell_down, cell_top}
 use Rattle.linked.specs.Meant.{size}
 use Rattle.linked.proofs.Moving.{read_node}
-use Rattle.linked.proofs.Stores.{nodes_of, within_len, in_nodes}
+use Rattle.linked.proofs.Stores.{nodes_of, in_nodes}
 use Rattle.linked.proofs.linked.Linked.cell_of.Goals as goal
 
-pub returns-then-index-len : goal.returns-then-index-len
-returns-then-index-len c =
+pub returns-then-index-list : goal.returns-then-index-list
+returns-then-index-list c =
     let s = c.args.self.now in
-    let e = length-cells (nodes_of s) c.args.len c.args.top in
-    let h = c.if-index-len.true in
-    sym (ap (λ o. ok_or o NoIndex) (slice_get_past (cells (nodes_of s) c.args.top c.args.len) c.args.index (omega arith)))
+    let e = length-cells (nodes_of s) c.args.list.len c.args.list.top in
+    let h = c.if-index-list.true in
+    sym (ap (λ o. ok_or o NoIndex) (slice_get_past (cells (nodes_of s) c.args.list.top c.args.list.len) c.args.index (omega arith)))
 
-pub loop-above-init : goal.loop-above-init
-loop-above-init c =
+pub loop-init : goal.loop-init
+loop-init c =
     let s = c.args.self.now in
-    let h = c.if-index-len.false in
-    let e : c.args.len ≡ suc (c.args.len - 1) = omega arith in
-    (subst (λ n. ends (nodes_of s) (size s) c.args.top n ≡ true) e c.requires, omega arith, ap (λ n. slice_get (cells (nodes_of s) c.args.top n) c.args.index) (sym e))
+    let h = c.if-index-list.false in
+    let e : c.args.list.len ≡ suc (c.args.index + (c.args.list.len - (c.args.index + 1))) = omega arith in
+    (subst (λ n. ends (nodes_of s) (size s) c.args.list.top n ≡ true) e c.requires, ap (λ n. slice_get (cells (nodes_of s) c.args.list.top n) c.args.index) (sym e))
 
 -- the node that the loop has come to
 at_in : (s : Linked) (t n : ℕ) → ends (nodes_of s) (size s) t (suc n) ≡ true → t < size s
 at_in s t n e = (ends-from (nodes_of s) (size s) (suc n) t e).0
-
-pub overflow_cast-at : goal.overflow_cast-at
-overflow_cast-at c = let s = c.args.self.now in let a = at_in s c.loop-above.at c.loop-above.above c.loop-above.invariant.0 in let b = needed_small s.depth s.table.limit s.flat s.table.few in omega arith
-
-pub overflow_cast-at-2 : goal.overflow_cast-at-2
-overflow_cast-at-2 c = let s = c.args.self.now in let a = at_in s c.loop-above.at c.loop-above.above c.loop-above.invariant.0 in let b = needed_small s.depth s.table.limit s.flat s.table.few in omega arith
-
-pub index-requires : goal.index-requires
-index-requires c = let s = c.args.self.now in within_len s c.loop-above.at (at_in s c.loop-above.at c.loop-above.above c.loop-above.invariant.0)
-
-pub index-requires-2 : goal.index-requires-2
-index-requires-2 c = let s = c.args.self.now in within_len s c.loop-above.at (at_in s c.loop-above.at c.loop-above.above c.loop-above.invariant.0)
 
 -- one node further down
 down : (s : Linked) (t n index : ℕ) (r : Node) → r ≡ node_at (nodes_of s) t → index < n → ends (nodes_of s) (size s) t (suc n) ≡ true
@@ -52,26 +40,26 @@ down s t n index r is l e =
     (subst (λ k. (ends (nodes_of s) (size s) (node_at (nodes_of s) t).link k ≡ true) × (slice_get (cells (nodes_of s) (node_at (nodes_of s) t).link k) index ≡ slice_get (cells (nodes_of s) t (suc n)) index)) m
     (ends_to (nodes_of s) (size s) n (node_at (nodes_of s) t).link (ends-from (nodes_of s) (size s) (suc n) t e).1, sym (cell_down (nodes_of s) t n index l)))
 
-pub loop-above-preserved : goal.loop-above-preserved
-loop-above-preserved c =
+pub loop-preserved : goal.loop-preserved
+loop-preserved c =
     let s = c.args.self.now in
-    let t : ℕ = c.loop-above.at in
-    let n : ℕ = c.loop-above.above in
+    let t : ℕ = c.loop.at in
+    let n : ℕ = (c.args.index + (c.args.list.len - c.loop.counter)) in
     let r = c.index.result.now in
-    let is : r ≡ node_at (nodes_of s) t = read_node (nodes_of s) t r (in_nodes s t (at_in s t n c.loop-above.invariant.0)) c.index.ensures in
-    let h = c.loop-above-test.true in
-    let d = down s t n c.args.index r is h c.loop-above.invariant.0 in
-    (d.0, omega arith, d.1 ∙ c.loop-above.invariant.2)
+    let is : r ≡ node_at (nodes_of s) t = read_node (nodes_of s) t r (in_nodes s t (at_in s t n c.loop.invariant.0)) c.index.ensures in
+    let h = c.loop-test.true in
+    let d = down s t n c.args.index r is (omega arith) c.loop.invariant.0 in
+    let e : n - 1 ≡ c.args.index + (c.args.list.len - (c.loop.counter + 1)) = omega arith in
+    (subst (λ m. ends (nodes_of s) (size s) r.link (suc m) ≡ true) e d.0, ap (λ m. slice_get (cells (nodes_of s) r.link (suc m)) c.args.index) (sym e) ∙ d.1 ∙ c.loop.invariant.1)
 
 pub returns : goal.returns
 returns c =
     let s = c.args.self.now in
-    let t : ℕ = c.loop-above.at in
-    let n : ℕ = c.loop-above.above in
+    let t : ℕ = c.loop.at in
+    let n : ℕ = (c.args.index + (c.args.list.len - c.loop.counter)) in
     let r = c.index-2.result.now in
-    let is : r ≡ node_at (nodes_of s) t = read_node (nodes_of s) t r (in_nodes s t (at_in s t n c.loop-above.invariant.0)) c.index-2.ensures in
-    let h = c.loop-above-test.false in
-    let g = c.loop-above.invariant.1 in
+    let is : r ≡ node_at (nodes_of s) t = read_node (nodes_of s) t r (in_nodes s t (at_in s t n c.loop.invariant.0)) c.index-2.ensures in
+    let h = c.loop-test.false in
     let e : n ≡ c.args.index = omega arith in
     ap (λ o. ok_or o NoIndex)
-    (ap (λ (y : Node). Some y.cell) is ∙ sym (cell_top (nodes_of s) t c.args.index) ∙ ap (λ k. slice_get (cells (nodes_of s) t (suc k)) c.args.index) (sym e) ∙ c.loop-above.invariant.2)
+    (ap (λ (y : Node). Some y.cell) is ∙ sym (cell_top (nodes_of s) t c.args.index) ∙ ap (λ k. slice_get (cells (nodes_of s) t (suc k)) c.args.index) (sym e) ∙ c.loop.invariant.1)

@@ -1,29 +1,28 @@
-use Rattle.std.proofs.Common.{Err, sym, refl, ap, ◌∙◌}
-use Rattle.store.specs.declared.refusal.Refusal.TheVariants.{NotHeld}
+use Rattle.std.proofs.Common.{refl, ap, ◌∙◌}
 use Rattle.bottom.specs.Tables.{listed}
-use Rattle.bottom.proofs.Rows.{without_none}
 use Rattle.copied.specs.Parts.{read_row}
 use Rattle.copied.proofs.Stores.{words_of}
-use Rattle.bottom.proofs.Answered.{released_none}
-use Rattle.copied.proofs.Calls.{fixed_same, meant-same, removed_owed, release_means}
+use Rattle.bottom.proofs.Answered.{is_held, released_none}
+use Rattle.copied.proofs.Calls.{refused_owed, refused_means, gone_owed, release_means}
 use Rattle.copied.proofs.copied.methods.CopiedStore.release.Goals as goal
 
 pub invariant_of-self : goal.invariant_of-self
-invariant_of-self c = let s = c.args.self.now in removed_owed s c.args.name.0 c.remove.new.self c.remove.result c.remove.ensures.row c.remove.ensures.rows c.remove.ensures.spare c.remove.ensures.limit
+invariant_of-self c = refused_owed c.args.self.now c.args.name.0 c.remove.new.self c.in_err-row.field-0.0 c.in_err-row.ensures.row c.in_err-row.ensures.rows c.in_err-row.ensures.limit
 
-pub returns-in_default : goal.returns-in_default
-returns-in_default c =
+pub returns-in_err-row-clause-call : goal.returns-in_err-row-clause-call
+returns-in_err-row-clause-call c =
     let s = c.args.self.now in
-    let none = sym c.in_default.ensures.row in
-    record {
-      memory = fixed_same s (words_of s) _ c.remove.ensures.limit refl;
-      call = ap (λ m. (Err NotHeld, m)) (meant-same s _ _ (c.remove.ensures.rows ∙ without_none _ _ none) c.remove.ensures.limit) ∙ released_none (read_row (words_of s) s.depth) _ (listed s.table) s.depth s.table.limit c.args.name.0 none;
-    }
+    ap (λ m. (c.from_residual.result, m)) (refused_means s c.args.name.0 c.remove.new.self c.in_err-row.field-0.0 c.in_err-row.ensures.row c.in_err-row.ensures.rows c.in_err-row.ensures.limit)
+    ∙ released_none (read_row (words_of s) s.depth) _ (listed s.table) s.depth s.table.limit c.args.name.0 c.in_err-row.field-0.0 c.in_err-row.ensures.row c.from_residual.result c.from_residual.ensures.1
 
-pub returns : goal.returns
-returns c =
+pub invariant_of-self-2 : goal.invariant_of-self-2
+invariant_of-self-2 c =
     let s = c.args.self.now in
-    record {
-      memory = fixed_same s (words_of s) _ c.remove.ensures.limit refl;
-      call = release_means s c.args.name.0 c.in-Some.field-0 (sym c.in-Some.ensures.row) c.remove.new.self c.in-Some.ensures.rows c.in-Some.ensures.spare c.in-Some.ensures.limit;
-    }
+    let r = c.in_ok-row.row in
+    gone_owed s c.args.name.0 r (is_held _ r c.in_ok-row.ensures.row) c.remove.new.self c.in_ok-row.ensures.rows c.in_ok-row.ensures.limit _ s.len _ c.push.ensures.items refl s.fits
+
+pub returns-clause-call : goal.returns-clause-call
+returns-clause-call c =
+    let s = c.args.self.now in
+    let r = c.in_ok-row.row in
+    release_means s c.args.name.0 r (is_held _ r c.in_ok-row.ensures.row) c.remove.new.self c.in_ok-row.ensures.rows c.in_ok-row.ensures.limit

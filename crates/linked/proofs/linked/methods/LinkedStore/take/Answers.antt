@@ -1,35 +1,30 @@
-use Rattle.std.proofs.Common.{Err, vec_items, sym, refl, ap, ◌∙◌}
-use Rattle.store.specs.declared.refusal.Refusal.TheVariants.{NotHeld}
+use Rattle.std.proofs.Common.{vec_items, ap, ◌∙◌}
 use Rattle.bottom.specs.Tables.{listed}
 use Rattle.linked.specs.Meant.{read_row}
 use Rattle.linked.proofs.Stores.{nodes_of}
-use Rattle.bottom.proofs.Answered.{taken_none}
-use Rattle.bottom.proofs.Rows.{without_none}
-use Rattle.linked.proofs.Calls.{owed_same, meant-same, fixed_same, take_somehow, take_owed, take_means, take_beyond}
+use Rattle.bottom.proofs.Answered.{is_held, taken_none}
+use Rattle.linked.proofs.Calls.{refused_owed, refused_means, fixed_same, take_somehow, take_owed, take_means, take_beyond}
 use Rattle.linked.proofs.linked.methods.LinkedStore.take.Goals as goal
 
 pub invariant_of-self : goal.invariant_of-self
-invariant_of-self c = let s = c.args.self.now in owed_same s c.remove.new.self (c.remove.ensures.rows ∙ without_none _ _ (sym c.in_default.ensures.row)) c.remove.ensures.limit
+invariant_of-self c = refused_owed c.args.self.now c.args.name.0 c.remove.new.self c.in_err-row.field-0.0 c.in_err-row.ensures.row c.in_err-row.ensures.rows c.in_err-row.ensures.limit
 
-pub returns-in_default : goal.returns-in_default
-returns-in_default c =
+pub returns-in_err-row-clause-call : goal.returns-in_err-row-clause-call
+returns-in_err-row-clause-call c =
     let s = c.args.self.now in
-    let none = sym c.in_default.ensures.row in
-    record {
-      memory = fixed_same s (nodes_of s) _ c.remove.ensures.limit refl;
-      call = ap (λ m. (Err NotHeld, m)) (meant-same s _ _ (c.remove.ensures.rows ∙ without_none _ _ none) c.remove.ensures.limit) ∙ taken_none (read_row (nodes_of s)) _ (listed s.table) s.depth s.table.limit c.args.name.0 none;
-    }
+    ap (λ m. (c.from_residual.result, m)) (refused_means s c.args.name.0 c.remove.new.self c.in_err-row.field-0.0 c.in_err-row.ensures.row c.in_err-row.ensures.rows c.in_err-row.ensures.limit)
+    ∙ taken_none (read_row (nodes_of s)) _ (listed s.table) s.depth s.table.limit c.args.name.0 c.in_err-row.field-0.0 c.in_err-row.ensures.row c.from_residual.result c.from_residual.ensures.1
 
-pub let_go-self-requires : goal.let_go-self-requires
-let_go-self-requires c = let s = c.args.self.now in take_somehow s c.args.name.0 c.in-Some.row (sym c.in-Some.ensures.row) c.remove.new.self c.remove.ensures.rows c.remove.ensures.limit
+pub let_go-requires : goal.let_go-requires
+let_go-requires c = let s = c.args.self.now in take_somehow s c.args.name.0 c.in_ok-row.row (is_held _ _ c.in_ok-row.ensures.row) c.remove.new.self c.in_ok-row.ensures.rows c.in_ok-row.ensures.limit
 
 pub invariant_of-self-2 : goal.invariant_of-self-2
-invariant_of-self-2 c = let s = c.args.self.now in take_owed s c.args.name.0 c.in-Some.row (sym c.in-Some.ensures.row) c.remove.new.self c.remove.ensures.rows c.remove.ensures.limit (vec_items c.let_go-self.new.nodes) c.let_go-self.result c.let_go-self.ensures
+invariant_of-self-2 c = let s = c.args.self.now in take_owed s c.args.name.0 c.in_ok-row.row (is_held _ _ c.in_ok-row.ensures.row) c.remove.new.self c.in_ok-row.ensures.rows c.in_ok-row.ensures.limit (vec_items c.let_go.new.self.nodes) c.let_go.new.self.free c.let_go.ensures c.from-self.result c.from-self.ensures
 
 pub returns : goal.returns
 returns c =
     let s = c.args.self.now in
     record {
-      memory = fixed_same s _ _ c.remove.ensures.limit (take_beyond s c.args.name.0 c.in-Some.row (sym c.in-Some.ensures.row) c.remove.new.self c.remove.ensures.rows c.remove.ensures.limit (vec_items c.let_go-self.new.nodes) c.let_go-self.result c.let_go-self.ensures);
-      call = take_means s c.args.name.0 c.in-Some.row (sym c.in-Some.ensures.row) c.remove.new.self c.remove.ensures.rows c.remove.ensures.limit (vec_items c.let_go-self.new.nodes) c.let_go-self.result c.let_go-self.ensures;
+      memory = fixed_same s _ _ c.in_ok-row.ensures.limit (take_beyond s c.args.name.0 c.in_ok-row.row (is_held _ _ c.in_ok-row.ensures.row) c.remove.new.self c.in_ok-row.ensures.rows c.in_ok-row.ensures.limit (vec_items c.let_go.new.self.nodes) c.let_go.new.self.free c.let_go.ensures);
+      call = take_means s c.args.name.0 c.in_ok-row.row (is_held _ _ c.in_ok-row.ensures.row) c.remove.new.self c.in_ok-row.ensures.rows c.in_ok-row.ensures.limit (vec_items c.let_go.new.self.nodes) c.let_go.new.self.free c.let_go.ensures c.from-self.result c.from-self.ensures;
     }
