@@ -7,7 +7,7 @@ use Rattle.std.proofs.lemmas.Iterator.Adapters.{position_from-zero}
 use Rattle.store.specs.declared.refusal.Refusal.{Refusal}
 use Rattle.store.specs.declared.refusal.Refusal.TheVariants.{HeldFull, NameTaken, NotHeld}
 use Rattle.bottom.specs.declared.row.Row.{Row}
-use Rattle.bottom.specs.Rows.{blank, row_under, rows_without, admitted, admitted_by, added, added_by}
+use Rattle.bottom.specs.Rows.{blank, row_under, rows_without, admitted, admitted_by, appended, added, added_by}
 use Rattle.bottom.proofs.Rows.{Located, located}
 
 -- what a search found
@@ -107,3 +107,11 @@ module _ (limit : ℕ) (rs : List Row) (row : Row) where
 
   pub added-fits : length rs < limit → Ok tt ≡ admitted rs row.name.0 → (Ok tt, rs ++ (row ∷ [])) ≡ added limit rs row
   added-fits l = admitted_as false (lt-leb _ _ l)
+
+-- a row that was taken is behind the others
+pub appended-ok : (limit : ℕ) (rs ts : List Row) (r : Row) (u : Unit {0}) → ◌≡◌ {A = Result (Unit {0}) Refusal × List Row} (Ok u, ts) (appended limit rs r) → ts ≡ rs ++ (r ∷ [])
+appended-ok limit rs ts r u e = by (leb limit (length rs)) e
+  where
+    by : (b : Bool) → ◌≡◌ {A = Result (Unit {0}) Refusal × List Row} (Ok u, ts) (cond b (Err HeldFull, rs) (Ok tt, rs ++ (r ∷ []))) → ts ≡ rs ++ (r ∷ [])
+    by true e = absurd (let k = ap (λ o. o.0) e in cc)
+    by false e = ap (λ o. o.1) e

@@ -27,15 +27,17 @@ admitted_by n None = cond (n == 0) (Err NameTaken) (Ok tt)
 abbrev pub admitted : List Row → ℕ → Result (Unit {0}) Refusal
 admitted rs n = admitted_by n (row_under rs n)
 
+-- one row more, unless there are as many as the limit already
+abbrev pub appended : ℕ → List Row → Row → Result (Unit {0}) Refusal × List Row
+appended limit rs r = cond (nat_le limit (length rs)) (Err HeldFull, rs) (Ok tt, rs ++ (r ∷ []))
+
 -- what adding a row answers, and the rows after it, by the row that its name has already
 abbrev pub added_by : ℕ → List Row → Row → Option Row → Result (Unit {0}) Refusal × List Row
 added_by limit rs r (Some s) = (Err NameTaken, rs)
 added_by limit rs r None =
     cond (r.name.0 == 0)
     (Err NameTaken, rs)
-    (cond (nat_le limit (length rs))
-    (Err HeldFull, rs)
-    (Ok tt, rs ++ (r ∷ [])))
+    (appended limit rs r)
 
 -- a name that is 0 or held is refused first, and then one row more than the limit
 abbrev pub added : ℕ → List Row → Row → Result (Unit {0}) Refusal × List Row

@@ -3,7 +3,7 @@ ghost use Rattle.std.specs.Prelude.{◌≡◌, ◌==◌, ◌<◌, min, [], ◌�
 ghost use Rattle.std.specs.List.{position};
 ghost use Rattle.std.specs.Option.{ok_or};
 ghost use Rattle.store.specs.declared.refusal.Refusal.TheVariants.{NotHeld};
-ghost use Rattle.bottom.specs.Rows.{row_under, rows_without, admitted, added};
+ghost use Rattle.bottom.specs.Rows.{row_under, rows_without, admitted, appended, added};
 ghost use Rattle.bottom.specs.Tables.{listed};
 
 use crate::row::Row;
@@ -56,26 +56,25 @@ impl Table {
         Ok(())
     }
 
-    /// Adds a row behind the others.
+    /// Adds a row behind the others, whatever its name.
+    pub fn push(&mut self, row: Row) -> Result<(), Refusal>
+        ensures rows { (result, listed self.new) ≡ appended self.old.limit (listed self.old) row }
+        ensures limit { self.new.limit ≡ self.old.limit }
+    {
+        if self.rows.len() >= self.limit as usize {
+            return Err(Refusal::HeldFull);
+        }
+        self.rows.push(row);
+        Ok(())
+    }
+
+    /// Adds a row behind the others, under a new name.
     pub fn add(&mut self, row: Row) -> Result<(), Refusal>
         ensures rows { (result, listed self.new) ≡ added self.old.limit (listed self.old) row }
         ensures limit { self.new.limit ≡ self.old.limit }
     {
         self.admit(row.name)?;
-        if self.rows.len() >= self.limit as usize {
-            return Err(Refusal::HeldFull);
-        }
-        self.push(row);
-        Ok(())
-    }
-
-    /// Adds a row behind the others, where there is room for it.
-    pub fn push(&mut self, row: Row)
-        requires { length (listed self.old) < self.old.limit }
-        ensures rows { listed self.new ≡ listed self.old ++ (row ∷ []) }
-        ensures limit { self.new.limit ≡ self.old.limit }
-    {
-        self.rows.push(row);
+        self.push(row)
     }
 
     /// Removes the row of a name, and answers it.

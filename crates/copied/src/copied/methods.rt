@@ -90,7 +90,7 @@ impl Store for Copied {
             name,
             at: place,
             len: self.len,
-        });
+        })?;
         let start = limits::cells_needed(self.depth, place);
         words::copy_cells(self.memory.as_mut_slice(), 0, start, self.len as usize);
         Ok(())

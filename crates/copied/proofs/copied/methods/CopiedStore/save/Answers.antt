@@ -5,7 +5,7 @@ use Rattle.store.specs.declared.refusal.Refusal.TheVariants.{HeldFull}
 use Rattle.bottom.specs.Tables.{listed}
 use Rattle.copied.proofs.Stores.{words_copied}
 use Rattle.bottom.proofs.Answered.{handed_on}
-use Rattle.bottom.proofs.Tables.{added-taken, added_full}
+use Rattle.bottom.proofs.Tables.{added-taken, added_full, appended-ok}
 use Rattle.copied.proofs.Calls.{fixed_same, row_for, save_refused, all_held, save_owed, save_means, save_beyond}
 use Rattle.copied.proofs.copied.methods.CopiedStore.save.Goals as goal
 
@@ -36,19 +36,21 @@ taken old new o p e is = e ∙ ap (λ q. new ++ option_to_list q) is
 pub invariant_of-self-2 : goal.invariant_of-self-2
 invariant_of-self-2 c =
     let s = c.args.self.now in
+    let added = appended-ok _ _ _ _ _ c.in_ok-push.ensures.rows in
     let us = c.copy_cells.new.memory in
     let e : length us ≡ vec_len s.memory = search rules in
     let items = words_copied s us _ 0 _ s.len _ _ e c.copy_cells.ensures c.as_mut_slice.ensures.value refl c.cells_needed-start.ensures in
-    save_owed s c.args.name.0 c.in_ok-place.place c.pop.new.self.items (taken _ _ _ _ c.pop.ensures.items c.in_ok-place.ensures.ok_part) c.push.new.self c.push.ensures.rows c.push.ensures.limit _ items
+    save_owed s c.args.name.0 c.in_ok-place.place c.pop.new.self.items (taken _ _ _ _ c.pop.ensures.items c.in_ok-place.ensures.ok_part) c.push.new.self added c.push.ensures.limit _ items
 
 pub returns : goal.returns
 returns c =
     let s = c.args.self.now in
+    let added = appended-ok _ _ _ _ _ c.in_ok-push.ensures.rows in
     let us = c.copy_cells.new.memory in
     let e : length us ≡ vec_len s.memory = search rules in
     let items = words_copied s us _ 0 _ s.len _ _ e c.copy_cells.ensures c.as_mut_slice.ensures.value refl c.cells_needed-start.ensures in
     let popped = taken _ _ _ _ c.pop.ensures.items c.in_ok-place.ensures.ok_part in
     record {
-      memory = fixed_same s _ _ c.push.ensures.limit (save_beyond s c.args.name.0 c.in_ok-place.place c.pop.new.self.items popped c.push.new.self c.push.ensures.rows c.push.ensures.limit _ items);
-      call = save_means s c.args.name.0 c.in_ok-place.place c.pop.new.self.items popped c.push.new.self c.push.ensures.rows c.push.ensures.limit _ items c.in_ok-admit.ensures;
+      memory = fixed_same s _ _ c.push.ensures.limit (save_beyond s c.args.name.0 c.in_ok-place.place c.pop.new.self.items popped c.push.new.self added c.push.ensures.limit _ items);
+      call = save_means s c.args.name.0 c.in_ok-place.place c.pop.new.self.items popped c.push.new.self added c.push.ensures.limit _ items c.in_ok-admit.ensures;
     }
