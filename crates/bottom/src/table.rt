@@ -9,7 +9,7 @@ pub mod methods;
 /// How many rows a table has room for.
 pub const ROWS: usize = 64;
 
-/// The rows of the held names, the oldest first.
+/// The rows of the held names, the oldest first. It has no model, since that would show these two fields again.
 #[derive(Drop)]
 pub struct Table {
     rows: ArrayVec<Row, ROWS>,

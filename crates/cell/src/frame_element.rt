@@ -9,6 +9,7 @@ use crate::frame::Frame;
 use crate::name::Name;
 use crate::value::Value;
 
+// Tags are words of a cell, and stay numbers: an enum of them would repeat the variants of `Frame`, and be turned twice.
 const SAVED: u32 = 1;
 
 const BACK: u32 = 2;

@@ -7,6 +7,7 @@ use crate::address::Address;
 use crate::name::Name;
 use crate::value::Value;
 
+// Kinds are words of a cell, and stay numbers: an enum of them would repeat the variants of `Value`.
 const EMPTY: u32 = 0;
 
 const NUMBER: u32 = 1;

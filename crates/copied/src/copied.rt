@@ -11,7 +11,7 @@ use bottom::table::{ROWS, Table};
 
 pub mod methods;
 
-/// The current list lies at the beginning of the memory, and behind it there is a part for each row that the table may have;
+/// The memory is given, so a length stands beside it. The current list lies at its beginning, and behind it there is a part for each row that the table may have;
 /// the parts of `free` are no row's.
 #[derive(Drop)]
 pub struct Copied {

@@ -99,7 +99,7 @@ impl<S: Store> Store for Cache<S> {
         ensures refused { is_ok result ≡ false → self.new ≡ self.old }
     {
         // So it is first seen to that the store below will accept.
-        if name.0 == 0 || self.below.saved_len(name).is_ok() {
+        if name == Name(0) || self.below.saved_len(name).is_ok() {
             return Err(Refusal::NameTaken);
         }
         if self.below.held() >= self.below.held_limit() {

@@ -5,7 +5,7 @@
 
 use std::alloc::{AllocError, Global};
 
-/// What the next byte belongs to.
+/// What the next byte belongs to. A closure for each would have the same cases, and not print.
 #[derive(Clone, Copy, PartialEq, Eq, Debug)]
 enum State {
     Text,

@@ -16,11 +16,10 @@ fn lettered(letter: u8, limit: u8, word: &[u8]) -> Result<u8, Fault>
     match word {
         [first, digits @ ..] if *first == letter => {
             let n = magnitude(digits).map_err(|_| Fault::BadOperand)?;
-            if n < u64::from(limit) {
-                Ok(n as u8)
-            } else {
-                Err(Fault::BadOperand)
-            }
+            u8::try_from(n)
+                .ok()
+                .filter(|index| *index < limit)
+                .ok_or(Fault::BadOperand)
         }
         _ => Err(Fault::BadOperand),
     }

@@ -54,7 +54,7 @@ impl SheetRefusal {
         }
     }
 
-    /// The line, or 0 where the refusal is about the whole sheet.
+    /// The line, or 0 where the refusal is about the whole sheet: the text of every refusal has a line, so no `Option`.
     pub fn line(self) -> u32
         ensures { result ≡ refusal_line self }
     {

@@ -11,6 +11,7 @@ use cell::name::Name;
 use std::marker::{Model, PhantomData};
 
 /// A store, each cell of which is read as an element. Each call is the call of the same name on the store, at elements.
+/// What a call keeps is two clauses in each: one name for both would take four functions of the two bounds.
 #[derive(Drop)]
 pub struct Typed<S: Store, E: Element> {
     store: S,

@@ -136,6 +136,7 @@ impl Store for Copied {
         Ok(words::read_cell(self.memory.as_slice(), start + index as usize))
     }
 
+    // From here on one line each, as in the other bottom store: a trait for them would have as many.
     fn held(&self) -> u32 {
         self.table.held()
     }

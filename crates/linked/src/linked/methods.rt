@@ -139,6 +139,7 @@ impl Store for Linked {
         self.cell_of(list, index)
     }
 
+    // From here on one line each, as in the other bottom store: a trait for them would have as many.
     fn held(&self) -> u32 {
         self.table.held()
     }
