@@ -2,7 +2,8 @@
 
 use crate::answers::Answers;
 use crate::caller::Caller;
-use cell::cell::{Cell, WIDTH};
+use cell::address::Address;
+use cell::frame::Frame;
 use copied::copied::Copied;
 use layers::cache::Cache;
 use layers::quota::Quota;
@@ -10,7 +11,9 @@ use linked::linked::Linked;
 use linked::node::Node;
 use std::alloc::{AllocError, Global};
 use std::test::Fail;
+use store::lent::Lent;
 use store::store::Store;
+use store::typed::Typed;
 
 const DEPTH: u32 = 20;
 
@@ -23,12 +26,7 @@ const CALLS: u32 = 20000;
 const BEGINNING: u64 = 2026;
 
 fn linked(heap: Global) -> Result<Linked, AllocError> {
-    let node = Node {
-        cell: Cell { words: [0; WIDTH] },
-        link: 0,
-        holders: 0,
-    };
-    let memory = vec![in heap; node; CELLS]?;
+    let memory = vec![in heap; Node::default(); CELLS]?;
     Ok(Linked::new(memory, DEPTH, HELD))
 }
 
@@ -72,5 +70,16 @@ fn quota_as_linked_but_for_its_level(rt: HostRuntime) -> Result<(), Fail> {
     let bottom = answers(linked(rt.alloc())?);
     let layered = answers(Quota::new(Cache::new(copied(rt.alloc(), 32)?), DEPTH));
     assert_eq!(rt; layered, Answers { level: 2, ..bottom });
+    Ok(())
+}
+
+// A list made of a store that is only lent changes that store.
+#[test]
+fn lent_store_keeps_what_its_list_was_given(rt: HostRuntime) -> Result<(), Fail> {
+    let mut store = linked(rt.alloc())?;
+    let mut frames: Typed<Lent<Linked>, Frame> = Typed::new(Lent(&mut store));
+    assert_eq!(rt; frames.push(Frame::Back(Address(7))), Ok(()));
+    assert_eq!(rt; frames.top(), Some(Frame::Back(Address(7))));
+    assert_eq!(rt; frames.store().len(), 1);
     Ok(())
 }

@@ -2,7 +2,7 @@
 ghost use Rattle.std.specs.Prelude.{◌≡◌, if◌then◌else◌};
 ghost use Rattle.bottom.specs.Limits.{in_range, cells_needed, accepted};
 
-/// The least depth limit.
+/// The least depth limit that a bottom store may have; what a list of frames needs is the same number, but a rule of its own.
 pub const LEAST_DEPTH: u32 = 16;
 
 /// The greatest depth limit.
@@ -28,7 +28,8 @@ pub fn cells_needed(depth: u32, held: u32) -> usize
     depth as usize * (held as usize + 1)
 }
 
-/// The limits that were asked for, or both 0 unless they are in range and there is room for so many cells.
+/// The limits that were asked for, or both 0 unless they are in range and there is room for so many cells: a store that
+/// refuses everything, so no `Option`.
 pub fn granted(room: usize, depth: u32, held: u32) -> (u32, u32)
     ensures { result ≡ (if accepted room (cells_needed depth held) depth held then (depth, held) else (0, 0)) }
 {

@@ -1,4 +1,4 @@
-//! Cells in a memory of words.
+//! Cells in a memory of words, which the store was given, so that cells are found by their index.
 ghost use Rattle.std.specs.Prelude.{◌≡◌, ◌+◌, ◌*◌, ◌≤◌, ◌++◌, length, take, drop};
 ghost use Rattle.std.specs.List.{copy_within};
 ghost use Rattle.cell.specs.Filled.{width};

@@ -14,6 +14,7 @@ pub fn common<W: Store>(winds: &Typed<W, Wind>, name: Name) -> Result<u32, Refus
     ensures { result ≡ refused_as refused_of (common_with winds.now.list name.0) }
 {
     let shorter = winds.len().min(winds.saved_len(name)?);
+    // By index, since a store answers so.
     for index in 0..shorter {
         let here = winds.at(index)?;
         let there = winds.saved_at(name, index)?;

@@ -1,5 +1,5 @@
 //! The table of held continuations.
-ghost use Rattle.std.specs.Prelude.{◌≡◌, [], length, map, reverse};
+ghost use Rattle.std.specs.Prelude.{◌≡◌, ◌≤◌, [], length, map, reverse};
 ghost use Rattle.cell.specs.Elements.{frame_in};
 ghost use Rattle.machine.specs.Apply.{marked_in};
 ghost use Rattle.machine.specs.Named.{find as found, without, changed_all};
@@ -18,7 +18,7 @@ use store::typed::Typed;
 /// How many rows a table has room for.
 pub const ROWS: usize = 64;
 
-/// The rows of the held names, the oldest first.
+/// The rows of the held names, the oldest first. A table apart from that of a bottom store, which has a limit and refuses names.
 #[derive(Drop)]
 pub struct HeldTable {
     rows: ArrayVec<HeldRow, ROWS>,
@@ -45,7 +45,8 @@ impl HeldTable {
 
     /// How many names are held.
     pub fn len(&self) -> usize
-        ensures { result ≡ length self.now }
+        ensures value { result ≡ length self.now }
+        ensures within { result ≤ ROWS }
     {
         self.rows.len()
     }

@@ -1,5 +1,5 @@
 //! What a run keeps of its held continuations, the questions about its two stores that a throw asks, and a save in both.
-//! It rests on `cell` and `store`, and on the definitions of `machine`.
+//! It rests on `cell` and `store`, on the definitions of `machine`, and on `arrayvec` of the kit.
 #![tactic(auto)]
 
 pub mod common;

@@ -19,6 +19,7 @@ pub const CAPACITY: usize = 8;
 pub struct Cache<S: Store> {
     below: S,
     cells: ArrayVec<Cell, CAPACITY>,
+    ghost within: { length cells.items ≤ 8 },
     ghost room: { length cells.items ≤ room_left (S.Store.meaning below) },
     ghost counted: { length cells.items ≤ 2 ^ 32 - 1 - length (S.Store.meaning below).current },
 }

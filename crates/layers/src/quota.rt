@@ -31,7 +31,7 @@ impl<S> Quota<S> {
     }
 }
 
-// Calls are forwarded one by one: an impl for every layer at once could stand only in the crate of `Store`.
+// Calls are handed down one by one, as in the cache: an impl for every layer at once would want a trait with a hook for each call.
 impl<S: Store> Store for Quota<S> {
     type Slot = S::Slot;
 

@@ -87,6 +87,7 @@ impl Pool {
         ensures { LetGo self.old.nodes.items self.new.nodes.items self.old.free self.new.free list.top list.len }
     {
         let mut at = list.top;
+        // Along the links, since no slice has the nodes of a list.
         for _ in 0..list.len {
             let node = &mut self.nodes[at as usize];
             if node.holders > 1 {

@@ -2,7 +2,7 @@
 //! run answers (`specs/`); here are the types that the definition shares with the code that carries it out, and the numbers
 //! of ends, reasons and refusals.
 //! It rests on `cell`, for values, frames and winds, on `code`, for instructions, and on `store` only for how
-//! a store refuses.
+//! a store refuses; and on `thiserror` of the kit.
 #![tactic(auto)]
 
 pub mod act;

@@ -23,7 +23,7 @@ pub struct WindTally {
     pub current: u32,
 }
 
-/// How a run ended, and the last address that it was Going at, 0 if none.
+/// How a run ended, and the last address that it was Going at: callers are told 0 where there was none.
 #[derive(Clone, Copy, PartialEq, Eq, Debug)]
 pub struct Ending {
     pub end: End,

@@ -1,5 +1,5 @@
 //! Lines of print, written into a buffer whole or not at all.
-//! It rests on `machine`, for the definition of a printed line.
+//! It rests on `machine`, for the definition of a printed line, and on `arrayvec` and `itoa` of the kit.
 #![tactic(auto)]
 
 mod line_guard;

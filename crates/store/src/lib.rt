@@ -2,6 +2,7 @@
 //! It rests on `cell`.
 #![tactic(auto)]
 
+pub mod lent;
 pub mod refusal;
 pub mod refused;
 pub mod store;

@@ -41,10 +41,19 @@ impl<S: Store, E: Element> Typed<S, E> {
 
     /// Gives the store back.
     pub fn into_store(self) -> S
-        ensures { result ≡ self.store }
+        ensures store { result ≡ self.store }
+        ensures list { self.list ≡ read_as E.read (S.meaning result) }
     {
         let Typed { store, of: _ } = self;
         store
+    }
+
+    /// The store. The list is always what it means when each of its cells is read.
+    pub fn store(&self) -> &S
+        ensures store { result.now ≡ self.now.store }
+        ensures list { self.now.list ≡ read_as E.read (S.meaning self.now.store) }
+    {
+        &self.store
     }
 
     /// Adds an element on top.
@@ -150,6 +159,13 @@ impl<S: Store, E: Element> Typed<S, E> {
         ensures { result ≡ self.now.list.limit_level }
     {
         self.store.limit_level()
+    }
+
+    /// Answers how many names are held.
+    pub fn held(&self) -> u32
+        ensures { result ≡ length self.now.list.held }
+    {
+        self.store.held()
     }
 
     /// Answers how many names may be held.

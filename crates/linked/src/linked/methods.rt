@@ -56,6 +56,7 @@ impl Linked {
             return Err(Refusal::NoIndex);
         }
         let mut at = list.top;
+        // Along the links, since no slice has the cells of a list.
         for _ in index + 1..list.len {
             at = self.pool.nodes[at as usize].link;
         }
