@@ -1,10 +1,9 @@
--- What a push and a pop make of a meaning.
-use Rattle.std.proofs.Common.{◌≡◌, ℕ, zero, suc, ◌+◌, ◌-◌, ◌<◌, ◌≤◌, List, [], ◌∷◌, ◌++◌, length, take, Some, Ok, Err, refl, ap, ◌∙◌, arith}
+-- A cell of two lists joined, and what a push makes of a meaning.
+use Rattle.std.proofs.Common.{◌≡◌, ℕ, zero, suc, ◌+◌, ◌<◌, ◌≤◌, List, [], ◌∷◌, ◌++◌, length, Ok, Err, refl, ap, arith}
 use Rattle.std.specs.List.{slice_get}
-use Rattle.std.proofs.lemmas.List.{length_push, take_at}
 use Rattle.std.proofs.lemmas.Bool.{cond-true, cond-false, le-leb, lt-leb}
 use Rattle.store.specs.declared.refusal.Refusal.TheVariants.{Full}
-use Rattle.store.specs.Meaning.{Meaning, pushed, popped, popped_by, top, with_current}
+use Rattle.store.specs.Meaning.{Meaning, pushed, with_current}
 
 module _ {A : Type 0} where
   -- a cell of two lists joined
@@ -18,14 +17,6 @@ module _ {A : Type 0} where
   nth_right [] ys p n h = ap (slice_get ys) (omega arith)
   nth_right (x ∷ xs) ys zero n h = absurd (omega arith)
   nth_right (x ∷ xs) ys (suc p) n h = nth_right xs ys p n (omega arith)
-
-  -- a pop takes off the cell that was pushed last
-  pub popped_push : (m : Meaning A) (xs : List A) (x : A) → m.current ≡ xs ++ (x ∷ []) → popped m ≡ (Ok x, with_current m xs)
-  popped_push m xs x e =
-      let last : length m.current - 1 ≡ length xs = omega (arith, ap length e ∙ length_push xs x) in
-      let found : top m.current ≡ Some x = rw (last, e) (nth_right xs (x ∷ []) (length xs) 0 (omega arith)) in
-      let rest : take (length m.current - 1) m.current ≡ xs = rw (last, e) (take_at xs (x ∷ []) (length xs) refl) in
-      ap (popped_by m) found ∙ ap (λ cs. (Ok x, with_current m cs)) rest
 
   -- a push at the depth limit is refused
   pub pushed_full : (m : Meaning A) (c : A) → m.depth_limit ≤ length m.current → pushed m c ≡ (Err (Full m.limit_level), m)

@@ -21,7 +21,8 @@ use Rattle.bottom.specs.Tables.{listed}
 use Rattle.bottom.proofs.Answered.{not_held, alike, released_some, saved-row, saved-refused}
 use Rattle.bottom.proofs.Rows.{bit-same, length-without, places_push, places-without, places_none, all_both, all_popped, all_under, all_without, without_none}
 use Rattle.bottom.proofs.Tables.{added-fits}
-use Rattle.bottom.proofs.Tops.{popped_push, pushed_room}
+use Rattle.store.proofs.Popping.{popped_push}
+use Rattle.bottom.proofs.Tops.{pushed_room}
 use Rattle.copied.specs.declared.copied.Copied.{Copied}
 use Rattle.cell.specs.Filled.{width}
 use Rattle.copied.specs.Cells.{cell_at, cells}

@@ -15,7 +15,8 @@ use Rattle.bottom.specs.Rows.{bit, places, row_under, rows_without, added}
 use Rattle.bottom.specs.Tables.{listed}
 use Rattle.bottom.proofs.Answered.{not_held, restored_some, taken_some, released_some, saved-row}
 use Rattle.bottom.proofs.Rows.{places_push, places-without, all_under, all_without, without_none, added_ok}
-use Rattle.bottom.proofs.Tops.{popped_push, pushed_room}
+use Rattle.store.proofs.Popping.{popped_push}
+use Rattle.bottom.proofs.Tops.{pushed_room}
 use Rattle.cell.specs.declared.cell.Cell.{Cell}
 use Rattle.linked.specs.declared.chain.Chain.{Chain}
 use Rattle.linked.specs.declared.linked.Linked.{Linked}

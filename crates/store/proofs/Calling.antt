@@ -1,5 +1,5 @@
 -- A call on a store of cells, as one on its elements.
-use Rattle.std.proofs.Common.{◌≡◌, ℕ, List, Err, Result, sym, ap, ◌∙◌}
+use Rattle.std.proofs.Common.{◌≡◌, ℕ, List, Ok, Err, Result, sym, refl, ap, ◌∙◌}
 use Rattle.std.specs.Result.{IsErrAnd}
 use Rattle.std.proofs.lemmas.Result.{err_from_is_err_and}
 use Rattle.store.specs.declared.refused.Refused.{Refused}
@@ -14,6 +14,12 @@ use Rattle.store.proofs.Typing.{left_as, popped_as}
 pub asked_as : {X Y E : Type 0} (h : Result X Refusal → Result Y Refusal) (told asked : Result X Refusal) (at : Result Y Refusal) (r : Result Y (Refused E)) → r ≡ refused_as refused_of (h told) → told ≡ asked → h asked ≡ at → r ≡ refused_as refused_of at
 asked_as h told asked at r is made same = is ∙ ap (λ t. refused_as refused_of (h t)) made ∙ ap (refused_as refused_of) same
 
+-- what a `?` hands on is the refusal of the list
+pub refusal_told : {X Y E : Type 0} (told : Result X Refusal) (e : Refusal) (r : Result Y (Refused E)) → told ≡ Err e → IsErrAnd r (λ y. y ≡ refused_of e) → (h : Result X Refusal → Result Y Refusal) → h (Err e) ≡ Err e → r ≡ refused_as refused_of (h told)
+refusal_told told e r was is h kept =
+    let p = err_from_is_err_and r is in
+    p.1 ∙ ap Err p.2 ∙ ap (refused_as refused_of) (sym (ap h was ∙ kept))
+
 -- `m` is what the store meant before a call, `left` after it; `told` is the store's answer, `r` the list's
 module _ {E : Type 0} (read : Cell → E) (words : E → List ℕ) (m left : Meaning Cell) where
   -- a cell, written again as its element is
@@ -27,6 +33,14 @@ module _ {E : Type 0} (read : Cell → E) (words : E → List ℕ) (m left : Mea
         ap (λ x. (x, read_as read left)) is
         ∙ ap (λ o. outcome_as refused_of (left_as read o)) made
         ∙ ap (outcome_as refused_of) (same Cell E read m)
+
+    -- refused, and handed on by `?`
+    pub call_refused : (e : Refusal) (r : Result X (Refused E)) → told ≡ Err e → IsErrAnd r (λ y. y ≡ refused_of e) → (r, read_as read left) ≡ outcome_as refused_of (op E (read_as read m))
+    call_refused e r was is = call_as r (refusal_told told e r was is (λ x. x) refl)
+
+    -- accepted
+    pub call_done : (x : X) → told ≡ Ok x → ◌≡◌ {A = Result X (Refused E) × Meaning E} (Ok x, read_as read left) (outcome_as refused_of (op E (read_as read m)))
+    call_done x was = call_as (Ok x) (ap (refused_as (refused_of {E = E})) (sym was))
 
     pub call_written : Written read words m → Written read words left
     call_written h =
@@ -49,9 +63,3 @@ module _ {E : Type 0} (read : Cell → E) (words : E → List ℕ) (m left : Mea
         ∙ ap (λ o. o.1) (popped_as again m)
         ∙ ap (λ n. (popped n).1) h
         ∙ ap (λ o. o.1) (sym made)
-
--- what a `?` hands on is the refusal of the list
-pub refusal_told : {X Y E : Type 0} (told : Result X Refusal) (e : Refusal) (r : Result Y (Refused E)) → told ≡ Err e → IsErrAnd r (λ y. y ≡ refused_of e) → (h : Result X Refusal → Result Y Refusal) → h (Err e) ≡ Err e → r ≡ refused_as refused_of (h told)
-refusal_told told e r was is h kept =
-    let p = err_from_is_err_and r is in
-    p.1 ∙ ap Err p.2 ∙ ap (refused_as refused_of) (sym (ap h was ∙ kept))

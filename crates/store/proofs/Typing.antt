@@ -1,23 +1,12 @@
 -- Each call on a meaning, read as the same call at elements.
-use Rattle.std.proofs.Common.{◌≡◌, ℕ, zero, suc, ◌-◌, Bool, true, false, cond, eqb, leb, List, [], ◌∷◌, map, length, Some, None, Option, Result, sym, refl, ap, ◌∙◌, arith}
+use Rattle.std.proofs.Common.{◌≡◌, ℕ, ◌-◌, Bool, true, false, cond, eqb, leb, List, [], ◌∷◌, map, length, Some, None, Option, sym, refl, ap, ◌∙◌}
 use Rattle.std.specs.List.{slice_get}
 use Rattle.std.specs.Option.{ok_or, option_map}
-use Rattle.std.specs.Result.{result_ok}
 use Rattle.std.proofs.lemmas.List.{length-map, map_push, take-map}
-use Rattle.std.proofs.lemmas.Option.{slice_get_past}
-use Rattle.store.specs.declared.refusal.Refusal.{Refusal}
+use Rattle.std.proofs.lemmas.Option.{slice_get-map}
 use Rattle.store.specs.declared.refusal.Refusal.TheVariants.{NoIndex}
-use Rattle.store.specs.Meaning.{Meaning, Held, Outcome, saved_under, without, pushed, popped, popped_by, saved, saved_by, restored, restored_by, released, released_by, taken, taken_by, cell_in, cell_by, saved_cell_in, length_by, saved_length, top}
+use Rattle.store.specs.Meaning.{Meaning, Held, Outcome, saved_under, without, popped, popped_by, saved, saved_by, restored, restored_by, released, released_by, taken, taken_by, cell_in, cell_by, saved_cell_in, length_by, saved_length, top}
 use Rattle.store.specs.Typed.{read_as, held_as, answer_as}
-
-nth_map : {A B : Type 0} (f : A → B) (xs : List A) (i : ℕ) → slice_get (map f xs) i ≡ option_map f (slice_get xs i)
-nth_map f [] i = refl
-nth_map f (x ∷ xs) zero = refl
-nth_map f (x ∷ xs) (suc i) = nth_map f xs i
-
-ok_found : {A E : Type 0} (o : Option A) (e : E) → result_ok (ok_or o e) ≡ o
-ok_found None e = refl
-ok_found (Some x) e = refl
 
 -- a function of what a test chooses
 chosen : {X Y : Type 0} (h : X → Y) (b : Bool) {x y : X} {x' y' : Y} → h x ≡ x' → h y ≡ y' → h (cond b x y) ≡ cond b x' y'
@@ -37,24 +26,12 @@ module _ {A B : Type 0} (f : A → B) where
   without_as [] n = refl
   without_as (h ∷ hs) n = chosen (map (held_as f)) (eqb h.name n) refl (ap (λ ps. held_as f h ∷ ps) (without_as hs n))
 
-  pub pushed_as : (m : Meaning A) (c : A) → left_as (pushed m c) ≡ pushed (read_as f m) (f c)
-  pushed_as m c = rw length-map (chosen left_as (leb m.depth_limit (length m.current)) refl (rw map_push))
-
   popped_by_as : (m : Meaning A) (o : Option A) → (answer_as f (popped_by m o).0, read_as f (popped_by m o).1) ≡ popped_by (read_as f m) (option_map f o)
   popped_by_as m None = refl
   popped_by_as m (Some x) = rw (length-map, take-map)
 
   pub top_as : (cs : List A) → option_map f (top cs) ≡ top (map f cs)
-  top_as cs = sym (rw length-map (nth_map f cs (length cs - 1)))
-
-  -- an empty list has no top
-  pub top_none : (cs : List A) (r : Option B) → r ≡ None → length cs ≡ 0 → r ≡ top (map f cs)
-  top_none cs r is none = is ∙ ap (option_map f) (sym (slice_get_past cs (length cs - 1) (omega arith))) ∙ top_as cs
-
-  -- what was told of the last index is the top
-  pub top-told : (cs : List A) (i : ℕ) (told : Result A Refusal) (found is : Option A) (r : Option B) → i ≡ length cs - 1 → told ≡ cell_in cs i → found ≡ result_ok told → found ≡ is → r ≡ option_map f is → r ≡ top (map f cs)
-  top-told cs i told found is r last asked part came read =
-      read ∙ ap (option_map f) (sym came ∙ part ∙ ap result_ok asked ∙ ok_found (slice_get cs i) NoIndex ∙ ap (slice_get cs) last) ∙ top_as cs
+  top_as cs = sym (rw length-map (slice_get-map f cs (length cs - 1)))
 
   pub popped_as : (m : Meaning A) → (answer_as f (popped m).0, read_as f (popped m).1) ≡ popped (read_as f m)
   popped_as m = popped_by_as m (top m.current) ∙ ap (popped_by (read_as f m)) (top_as m.current)
@@ -93,7 +70,7 @@ module _ {A B : Type 0} (f : A → B) where
   found_as (Some x) = refl
 
   pub cell_in_as : (cs : List A) (i : ℕ) → answer_as f (cell_in cs i) ≡ cell_in (map f cs) i
-  cell_in_as cs i = found_as (slice_get cs i) ∙ ap (λ o. ok_or o NoIndex) (sym (nth_map f cs i))
+  cell_in_as cs i = found_as (slice_get cs i) ∙ ap (λ o. ok_or o NoIndex) (sym (slice_get-map f cs i))
 
   cell_by_as : (o : Option (List A)) (i : ℕ) → answer_as f (cell_by o i) ≡ cell_by (option_map (map f) o) i
   cell_by_as None i = refl

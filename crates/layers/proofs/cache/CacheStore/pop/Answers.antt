@@ -1,6 +1,6 @@
 use Rattle.std.proofs.Common.{[], ◌∷◌, ◌++◌, sym, ap, ◌∙◌, append_assoc}
 use Rattle.layers.specs.Layers.{topped}
-use Rattle.layers.proofs.Stacks.{popped_push}
+use Rattle.store.proofs.Popping.{popped_push}
 use Rattle.layers.proofs.cache.CacheStore.pop.Goals as goal
 
 pub returns-in-Some-clause-call : goal.returns-in-Some-clause-call

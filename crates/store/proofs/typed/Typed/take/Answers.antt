@@ -1,21 +1,17 @@
-use Rattle.std.proofs.Common.{sym, refl, ap}
 use Rattle.store.specs.Meaning.{taken}
-use Rattle.store.specs.Typed.{refused_of, refused_as}
-use Rattle.store.proofs.Calling.{call_as, call_written, refusal_told}
+use Rattle.store.proofs.Calling.{call_refused, call_done, call_written}
 use Rattle.store.proofs.Typing.{taken_as}
 use Rattle.store.proofs.typed.Typed.take.Goals as goal
 
 pub returns-in_err-take-clause-call : goal.returns-in_err-take-clause-call
 returns-in_err-take-clause-call g c =
     let n = c.args.name.0 in
-    let told = refusal_told c.take.result c.in_err-take.field-0.0 c.from_residual.result c.in_err-take.was c.from_residual.ensures.1 (λ x. x) refl in
-    rw (← c.self.view_is) (call_as g.E.Element.read g.E.Element.written (g.S.Store.meaning c.self.inside.store) (g.S.Store.meaning c.take.new.self) c.take.result (λ A m. taken m n) (λ A B f m. taken_as f m n) c.take.ensures.call _ told)
+    rw (← c.self.view_is) (call_refused g.E.Element.read g.E.Element.written (g.S.Store.meaning c.self.inside.store) (g.S.Store.meaning c.take.new.self) c.take.result (λ A m. taken m n) (λ A B f m. taken_as f m n) c.take.ensures.call c.in_err-take.field-0.0 c.from_residual.result c.in_err-take.was c.from_residual.ensures.1)
 
 pub returns-clause-call : goal.returns-clause-call
 returns-clause-call g c =
     let n = c.args.name.0 in
-    let told = ap (refused_as refused_of) (sym c.in_ok-take.was) in
-    rw (← c.self.view_is) (call_as g.E.Element.read g.E.Element.written (g.S.Store.meaning c.self.inside.store) (g.S.Store.meaning c.take.new.self) c.take.result (λ A m. taken m n) (λ A B f m. taken_as f m n) c.take.ensures.call _ told)
+    rw (← c.self.view_is) (call_done g.E.Element.read g.E.Element.written (g.S.Store.meaning c.self.inside.store) (g.S.Store.meaning c.take.new.self) c.take.result (λ A m. taken m n) (λ A B f m. taken_as f m n) c.take.ensures.call _ c.in_ok-take.was)
 
 pub returns-clause-written : goal.returns-clause-written
 returns-clause-written g c =
