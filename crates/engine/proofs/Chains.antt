@@ -1,18 +1,8 @@
--- One thing after another, where the first was made, and where it was refused.
-use Rattle.std.proofs.Common.{◌≡◌, Ok, Err, ap, ◌∙◌}
-use Rattle.machine.specs.declared.end.End.{End}
-use Rattle.engine.specs.declared.step.Step.{Step}
-use Rattle.engine.specs.declared.step.Step.TheVariants.{Made}
+-- One thing after another, where the first was made.
+use Rattle.std.proofs.Common.{◌≡◌, Ok, ap, ◌∙◌}
 use Rattle.engine.specs.Parts.{Parts}
 use Rattle.engine.specs.Acting.{Carried, ◌then◌}
 
 module _ {A B : Type 0} (x : Carried A) (next : Parts → Carried B) where
   pub on : {a : A} {p : Parts} {r : Carried B} → (Ok a, p) ≡ x → r ≡ next p → r ≡ (x then next)
   on e h = h ∙ ap (λ y. y then next) e
-
-  pub off : {e : End} {p : Parts} → (Err e, p) ≡ x → (Err e, p) ≡ (x then next)
-  off e = ap (λ y. y then next) e
-
--- a step that was made
-pub step-made : {p q : Parts} → p ≡ q → ◌≡◌ {A = Carried Step} (Ok Made, p) (Ok Made, q)
-step-made e = ap (λ p. (Ok Made, p)) e

@@ -17,11 +17,12 @@ mod names;
 mod parts;
 
 /// How many registers an engine has.
-pub const REGISTERS: usize = 8;
+pub const REGISTERS: usize = code::register::REGISTERS as usize;
 
 /// How many globals.
-pub const GLOBALS: usize = 32;
+pub const GLOBALS: usize = code::global::GLOBALS as usize;
 
+// The bounds stand on the struct, since its model reads what the two lists mean.
 /// A machine's state, its frames and its winds in force in two stores.
 #[derive(Drop)]
 pub struct Engine<F: Store, W: Store> {

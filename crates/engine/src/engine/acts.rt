@@ -7,8 +7,8 @@ ghost use Rattle.machine.specs.declared.wind_move.WindMove.TheVariants.{Open, Re
 ghost use Rattle.machine.specs.declared.write.Write.TheVariants.{Register as ToRegister, Global as ToGlobal};
 ghost use Rattle.engine.specs.Acting.{carried, entering, new_wind, replacing};
 
+use crate::counters::up;
 use crate::engine::Engine;
-use crate::engine::parts::up;
 use crate::step::Step;
 use cell::address::Address;
 use cell::frame::Frame;
@@ -19,6 +19,8 @@ use code::global::Global;
 use code::register::Register;
 use machine::end::End;
 use machine::mode::Mode;
+use machine::name_move::NameMove;
+use machine::wind_move::WindMove;
 use store::store::Store;
 
 impl<F: Store, W: Store> Engine<F, W> {
@@ -26,7 +28,7 @@ impl<F: Store, W: Store> Engine<F, W> {
     pub(crate) fn go(&mut self, mode: Mode) -> Step
         ensures { (Ok result, self.new) ≡ carried (does (moves mode)) self.old }
     {
-        self.turn(mode);
+        self.turn(mode, WindMove::Stay, NameMove::Keep);
         Step::Made
     }
 
@@ -116,7 +118,11 @@ impl<F: Store, W: Store> Engine<F, W> {
     {
         self.enter_new(before, after)?;
         self.replace_top(Frame::Out)?;
-        self.turn_opening(Mode::Going(body));
+        self.turn(
+            Mode::Going(body),
+            WindMove::Open(before, after),
+            NameMove::Keep,
+        );
         Ok(Step::Made)
     }
 
@@ -141,7 +147,7 @@ impl<F: Store, W: Store> Engine<F, W> {
         ensures { (result, self.new) ≡ carried (does (winding Leave (moves (GoingAt after)))) self.old }
     {
         self.pop_wind()?;
-        self.turn_leaving(Mode::Going(after));
+        self.turn(Mode::Going(after), WindMove::Leave, NameMove::Keep);
         Ok(Step::Made)
     }
 
@@ -151,7 +157,7 @@ impl<F: Store, W: Store> Engine<F, W> {
     {
         self.push_wind(wind)?;
         self.pop_frame()?;
-        self.turn_reentering(mode);
+        self.turn(mode, WindMove::Reenter(wind), NameMove::Keep);
         Ok(Step::Made)
     }
 }

@@ -1,7 +1,6 @@
 //! Acts that make a name, use one up or forget one.
 ghost use Rattle.std.specs.Prelude.{◌≡◌};
 ghost use Rattle.cell.specs.declared.frame.Frame.TheVariants.{Back as BackTo, Mark as MarkOf};
-ghost use Rattle.cell.specs.declared.name.Name.{Name};
 ghost use Rattle.cell.specs.declared.value.Value.TheVariants.{Continuation as ContinuationOf};
 ghost use Rattle.machine.specs.Acts.{moves, writing, framing, naming, does};
 ghost use Rattle.machine.specs.Going.{zeroth};
@@ -23,6 +22,8 @@ use cell::value::Value;
 use code::register::Register;
 use machine::end::End;
 use machine::mode::Mode;
+use machine::name_move::NameMove;
+use machine::wind_move::WindMove;
 use store::store::Store;
 
 /// The register that values are passed in.
@@ -35,23 +36,22 @@ const FRAMES_FOR_MANY: u32 = 1;
 const FRAMES_FOR_ONE: u32 = 2;
 
 impl<F: Store, W: Store> Engine<F, W> {
-    /// Ends a step that made a name: it is in r0, and the procedure follows.
-    fn pass_name(&mut self, name: Name, body: Address)
-        ensures many { self.new ≡ turned (with_register self.old zeroth (ContinuationOf name)) (GoingAt body) Stay SaveMany }
-        ensures one { self.new ≡ turned (with_register self.old zeroth (ContinuationOf name)) (GoingAt body) Stay SaveOnce }
+    /// Ends a step that saved under a name: it is in r0, and the procedure follows.
+    fn pass_name(&mut self, name: Name, body: Address, save: NameMove)
+        ensures { self.new ≡ turned (with_register self.old zeroth (ContinuationOf name)) (GoingAt body) Stay save }
     {
         self.set_register(ZEROTH, Value::Continuation(name));
-        self.turn_making(Mode::Going(body));
+        self.turn(Mode::Going(body), WindMove::Stay, save);
     }
 
-    /// The same of the rest of `cc`, under a name.
+    /// The rest of `cc`, under a name.
     fn capture_many_as(&mut self, name: Name, back: Address, body: Address) -> Result<Step, End>
         ensures { (result, self.new) ≡ carry_as name (naming SaveMany (writing (ToRegister zeroth (ContinuationOf name)) (framing (Push (BackTo back)) (moves (GoingAt body))))) self.old }
     {
         self.check_capture(FRAMES_FOR_MANY)?;
         self.push_frame(Frame::Back(back))?;
         self.hold_many(name)?;
-        self.pass_name(name, body);
+        self.pass_name(name, body, NameMove::SaveMany);
         Ok(Step::Made)
     }
 
@@ -63,7 +63,8 @@ impl<F: Store, W: Store> Engine<F, W> {
         self.capture_many_as(name, back, body)
     }
 
-    /// The same of the rest of `cc1`, under a name.
+    // Apart from `capture_many_as`: the save comes before the Mark is pushed, so one function would test the kind twice.
+    /// The rest of `cc1`, under a name.
     fn capture_once_as(&mut self, name: Name, back: Address, body: Address) -> Result<Step, End>
         ensures { (result, self.new) ≡ carry_as name (naming SaveOnce (writing (ToRegister zeroth (ContinuationOf name)) (framing (PushBoth (BackTo back) (MarkOf name)) (moves (GoingAt body))))) self.old }
     {
@@ -71,7 +72,7 @@ impl<F: Store, W: Store> Engine<F, W> {
         self.push_frame(Frame::Back(back))?;
         self.hold_once(name)?;
         self.push_frame(Frame::Mark(name))?;
-        self.pass_name(name, body);
+        self.pass_name(name, body, NameMove::SaveOnce);
         Ok(Step::Made)
     }
 
@@ -88,7 +89,7 @@ impl<F: Store, W: Store> Engine<F, W> {
         ensures { (result, self.new) ≡ carried (does (naming (Forget name) (moves mode))) self.old }
     {
         self.release(name)?;
-        self.turn_forgetting(mode);
+        self.turn(mode, WindMove::Stay, NameMove::Forget(name));
         Ok(Step::Made)
     }
 
@@ -98,7 +99,7 @@ impl<F: Store, W: Store> Engine<F, W> {
     {
         self.pop_frame()?;
         self.release(name)?;
-        self.turn_using(Mode::Returning);
+        self.turn(Mode::Returning, WindMove::Stay, NameMove::Use(name));
         Ok(Step::Made)
     }
 
@@ -111,11 +112,11 @@ impl<F: Store, W: Store> Engine<F, W> {
     }
 
     /// Ends a step that used a name up: the value is in r0, and it is returned.
-    fn pass_value(&mut self, value: Value)
-        ensures { (name : Name) → self.new ≡ turned (with_register self.old zeroth value) ReturningNow Stay (Use name) }
+    fn pass_value(&mut self, name: Name, value: Value)
+        ensures { self.new ≡ turned (with_register self.old zeroth value) ReturningNow Stay (Use name) }
     {
         self.set_register(ZEROTH, value);
-        self.turn_using(Mode::Returning);
+        self.turn(Mode::Returning, WindMove::Stay, NameMove::Use(name));
     }
 
     /// A throw comes to its end, which uses its name up.
@@ -124,7 +125,7 @@ impl<F: Store, W: Store> Engine<F, W> {
     {
         self.take_frames(name)?;
         self.release_winds(name)?;
-        self.pass_value(value);
+        self.pass_value(name, value);
         Ok(Step::Made)
     }
 }

@@ -3,8 +3,8 @@ ghost use Rattle.std.specs.Prelude.{◌≡◌, true};
 ghost use Rattle.machine.specs.declared.frame_move.FrameMove.TheVariants.{Keep, Restore};
 ghost use Rattle.engine.specs.Acting.{restoring, taking, releasing_frames, releasing_winds, dropping, release as releasing, saving, adding, promoting, holding_many, holding_once, capture_room, fresh};
 
+use crate::counters::up;
 use crate::engine::Engine;
-use crate::engine::parts::up;
 use cell::frame::Frame;
 use cell::name::Name;
 use cell::wind::Wind;
@@ -21,6 +21,7 @@ impl<F: Store, W: Store> Engine<F, W> {
         Name(up(self.counts.made))
     }
 
+    // Some of these hand on one call of a list: each turns its refusal into the run's end, and has the act's own contract.
     /// Makes the frames saved under a name current.
     pub(crate) fn restore_frames(&mut self, name: Name) -> Result<(), End>
         ensures { (result, self.new) ≡ restoring name self.old }
@@ -99,6 +100,7 @@ impl<F: Store, W: Store> Engine<F, W> {
         self.add_row(name, false)
     }
 
+    // Not one function with a flag: this promotes no row, and a test between the save and the row would be no plainer.
     /// The same, for one throw.
     pub(crate) fn hold_once(&mut self, name: Name) -> Result<(), End>
         ensures { (result, self.new) ≡ holding_once name self.old }

@@ -1,12 +1,7 @@
 //! What an act is put together from: one call on a store, one write, or the end of a step.
 ghost use Rattle.std.specs.Prelude.{◌≡◌, slice_index_or, slice_set};
-ghost use Rattle.cell.specs.declared.address.Address.{Address};
-ghost use Rattle.cell.specs.declared.name.Name.{Name};
 ghost use Rattle.cell.specs.declared.value.Value.TheVariants.{Empty};
-ghost use Rattle.cell.specs.declared.wind.Wind.{Wind};
-ghost use Rattle.machine.specs.declared.name_move.NameMove.TheVariants.{Keep as KeepNames, SaveMany, SaveOnce, Use, Forget};
-ghost use Rattle.machine.specs.declared.wind_move.WindMove.TheVariants.{Stay, Open, Reenter, Leave};
-ghost use Rattle.engine.specs.Parts.{with_register, with_global, turned, up as counted_on};
+ghost use Rattle.engine.specs.Parts.{with_register, with_global, turned};
 ghost use Rattle.engine.specs.Acting.{pushing, popping, entering, leaving, frame_room, name_room};
 
 use crate::engine::Engine;
@@ -18,14 +13,9 @@ use code::register::Register;
 use held::held_table::ROWS;
 use machine::end::End;
 use machine::mode::Mode;
+use machine::name_move::NameMove;
+use machine::wind_move::WindMove;
 use store::store::Store;
-
-/// A count that goes up by one.
-pub(crate) fn up(count: u32) -> u32
-    ensures { result ≡ counted_on count }
-{
-    count.wrapping_add(1)
-}
 
 /// The value at an index; beyond the last there is none.
 fn value_at(values: &[Value], index: usize) -> Value
@@ -38,6 +28,7 @@ fn value_at(values: &[Value], index: usize) -> Value
 fn set_value(values: &mut [Value], index: usize, value: Value)
     ensures { values.new ≡ slice_set values.old index value }
 {
+    // By `get_mut` no proof closes: after it a slice's length is known, and no element.
     if index < values.len() {
         values[index] = value;
     }
@@ -72,6 +63,7 @@ impl<F: Store, W: Store> Engine<F, W> {
         set_value(&mut self.globals, global.0 as usize, value);
     }
 
+    // Frames and winds stay apart: one method for both would need a trait that picks the list, and the kind of end that refuses.
     /// Pushes a frame.
     pub(crate) fn push_frame(&mut self, frame: Frame) -> Result<(), End>
         ensures { (result, self.new) ≡ pushing frame self.old }
@@ -100,64 +92,16 @@ impl<F: Store, W: Store> Engine<F, W> {
         Ok(self.winds.pop()?)
     }
 
-    /// Ends a step that moved no wind and no name.
-    pub(crate) fn turn(&mut self, mode: Mode)
-        ensures { self.new ≡ turned self.old mode Stay KeepNames }
+    /// Ends a step that made these moves.
+    #[inline]
+    pub(crate) fn turn(&mut self, mode: Mode, winds: WindMove, names: NameMove)
+        ensures { self.new ≡ turned self.old mode winds names }
     {
         if let Mode::Going(at) = self.mode {
             self.tried = at;
         }
         self.mode = mode;
-        self.counts.steps = up(self.counts.steps);
-    }
-
-    /// Ends a step that entered a new wind.
-    pub(crate) fn turn_opening(&mut self, mode: Mode)
-        ensures { (before after : Address) → self.new ≡ turned self.old mode (Open before after) KeepNames }
-    {
-        self.counts.numbered = up(self.counts.numbered);
-        self.counts.entered = up(self.counts.entered);
-        self.turn(mode);
-    }
-
-    /// Ends a step that entered a saved wind again.
-    pub(crate) fn turn_reentering(&mut self, mode: Mode)
-        ensures { (wind : Wind) → self.new ≡ turned self.old mode (Reenter wind) KeepNames }
-    {
-        self.counts.entered = up(self.counts.entered);
-        self.turn(mode);
-    }
-
-    /// Ends a step that left a wind.
-    pub(crate) fn turn_leaving(&mut self, mode: Mode)
-        ensures { self.new ≡ turned self.old mode Leave KeepNames }
-    {
-        self.counts.left = up(self.counts.left);
-        self.turn(mode);
-    }
-
-    /// Ends a step that made a name.
-    pub(crate) fn turn_making(&mut self, mode: Mode)
-        ensures { (self.new ≡ turned self.old mode Stay SaveMany) × (self.new ≡ turned self.old mode Stay SaveOnce) }
-    {
-        self.counts.made = up(self.counts.made);
-        self.turn(mode);
-    }
-
-    /// Ends a step that used a name up.
-    pub(crate) fn turn_using(&mut self, mode: Mode)
-        ensures { (name : Name) → self.new ≡ turned self.old mode Stay (Use name) }
-    {
-        self.counts.used = up(self.counts.used);
-        self.turn(mode);
-    }
-
-    /// Ends a step that forgot a name.
-    pub(crate) fn turn_forgetting(&mut self, mode: Mode)
-        ensures { (name : Name) → self.new ≡ turned self.old mode Stay (Forget name) }
-    {
-        self.counts.forgotten = up(self.counts.forgotten);
-        self.turn(mode);
+        self.counts.count(winds, names);
     }
 
     /// There has to be room for so many frames more.

@@ -1,14 +1,6 @@
 use Rattle.std.proofs.Common.{rules}
-use Rattle.engine.proofs.Chains.{on, step-made}
+use Rattle.engine.proofs.Chains.{on}
 use Rattle.engine.proofs.engine.Engine.capture_many_as.Goals as goal
 
-pub returns-in_err-push_frame : goal.returns-in_err-push_frame
-returns-in_err-push_frame g c = on _ _ c.in_ok-check_capture.ensures (search rules)
-
-pub returns-in_err-hold_many : goal.returns-in_err-hold_many
-returns-in_err-hold_many g c = on _ _ c.in_ok-check_capture.ensures (on _ _ c.in_ok-push_frame.ensures (search rules))
-
 pub returns : goal.returns
-returns g c =
-    on _ _ c.in_ok-check_capture.ensures
-    (on _ _ c.in_ok-push_frame.ensures (on _ _ c.in_ok-hold_many.ensures (step-made c.pass_name.ensures.many)))
+returns g c = on _ _ c.in_ok-check_capture.ensures (on _ _ c.in_ok-push_frame.ensures (search rules))
