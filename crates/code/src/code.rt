@@ -46,12 +46,10 @@ impl Code {
     pub fn new(instructions: &[Instruction]) -> Option<Self>
         ensures { result ≡ accepted instructions.now }
     {
-        let instructions = ArrayVec::try_from(instructions).ok()?;
-        if all_fit(&instructions) {
-            Some(Code { instructions })
-        } else {
-            None
-        }
+        let instructions = ArrayVec::try_from(instructions)
+            .ok()
+            .filter(|list| all_fit(list))?;
+        Some(Code { instructions })
     }
 
     /// How many instructions there are.

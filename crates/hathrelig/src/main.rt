@@ -1,5 +1,5 @@
 //! The program: it reads a rule sheet from standard input and says what it read.
-//! It rests on `sheet` and `code`, where everything that matters is.
+//! It rests on `sheet` and `code`, where everything that matters is, and on `anyhow` for its errors.
 #![tactic(auto)]
 
 use code::code::Code;

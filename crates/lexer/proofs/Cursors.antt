@@ -1,4 +1,4 @@
--- What a cursor hands out, and what is left to come.
+-- What the iterators over lines and words hand out, and what is left to come.
 use Rattle.std.proofs.Common.{◌≡◌, ℕ, ◌+◌, ◌-◌, ◌<◌, ◌≤◌, suc, List, [], ◌∷◌, length, take, drop, Option, Some, None, Bor, sym, refl, ap, ◌∙◌, subst, arith, length-drop}
 use Rattle.std.proofs.lemmas.List.{drop-drop, take_all}
 use Rattle.std.specs.Option.{option_map, unwrap_or}

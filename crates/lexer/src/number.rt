@@ -19,6 +19,7 @@ fn is_well_formed(digits: &[u8]) -> bool
     }
 }
 
+/// By hand, since `parse` takes text, and its refusals, none of which can be met here, would have to be ruled out.
 fn value(digits: &[u8]) -> u64
     requires digits { all_digits digits.now ≡ true }
     requires few { length digits.now ≤ 10 }

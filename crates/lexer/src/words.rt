@@ -42,7 +42,7 @@ impl<'a> Words<'a> {
         }
     }
 
-    /// The bytes of the next word, or none where there is no word left.
+    /// The bytes of the next word, or no bytes where none is left, as `word_at` says: the caller counts the words, so no `Option`.
     pub fn next_bytes(&mut self) -> &'a [u8]
         ensures bytes { result.now ≡ word_at (words_left self.old) 0 }
         ensures rest { self.new ≡ drop 1 self.old }

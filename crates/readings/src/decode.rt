@@ -5,7 +5,7 @@
 
 use std::alloc::{AllocError, Global};
 
-/// What the next byte belongs to. A closure for each would have the same cases, and not print.
+/// What the next byte belongs to. Closures that go on to one another would have to be boxed, each with a type of its own.
 #[derive(Clone, Copy, PartialEq, Eq, Debug)]
 enum State {
     Text,
@@ -15,12 +15,19 @@ enum State {
     Count(usize),
 }
 
-/// A sheet that is being put together; `part` collects a text that is to be repeated.
+/// A text that is being put together, and how often it is wanted.
+#[derive(Drop)]
+struct Part {
+    times: usize,
+    text: Vec<u8>,
+}
+
+/// A sheet that is being put together.
 #[derive(Drop)]
 struct Decoder {
+    alloc: Global,
     sheet: Vec<u8>,
-    part: Vec<u8>,
-    times: Option<usize>,
+    part: Option<Part>,
     state: State,
 }
 
@@ -40,25 +47,27 @@ fn hex_digit(b: u8) -> u8 {
 impl Decoder {
     fn new(alloc: Global) -> Self {
         Decoder {
+            alloc,
             sheet: Vec::new(alloc),
-            part: Vec::new(alloc),
-            times: None,
+            part: None,
             state: State::Text,
         }
     }
 
     fn put(&mut self, b: u8) -> Result<(), AllocError> {
         self.state = State::Text;
-        match self.times {
-            Some(_) => self.part.push(b)?,
+        match &mut self.part {
+            Some(part) => part.text.push(b)?,
             None => self.sheet.push(b)?,
         }
         Ok(())
     }
 
     fn repeat(&mut self) -> Result<(), AllocError> {
-        for _ in 0..self.times.take().unwrap_or(0) {
-            self.sheet.extend_from_slice(&self.part)?;
+        if let Some(part) = self.part.take() {
+            for _ in 0..part.times {
+                self.sheet.extend_from_slice(&part.text)?;
+            }
         }
         Ok(())
     }
@@ -75,9 +84,9 @@ impl Decoder {
             (State::Escape, _) => self.put(b)?,
             (State::HighDigit, _) => self.state = State::LowDigit(hex_digit(b)),
             (State::LowDigit(high), _) => self.put((high << 4) | hex_digit(b))?,
-            (State::Count(so_far), b'*') => {
-                self.part.clear();
-                self.times = Some(so_far);
+            (State::Count(times), b'*') => {
+                let text = Vec::new(self.alloc);
+                self.part = Some(Part { times, text });
                 self.state = State::Text;
             }
             (State::Count(so_far), _) => {

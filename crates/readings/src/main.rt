@@ -1,5 +1,5 @@
 //! Reads each sheet of a table and prints what the reader answers, a line for each, as an independent evaluator does.
-//! It rests on `sheet` and `code`.
+//! It rests on `sheet` and `code`, and on `anyhow` for its errors.
 #![tactic(auto)]
 
 use crate::decode::decoded;

@@ -1,5 +1,5 @@
 -- An instruction line: its word, its operands, and what it says while the labels are not known yet.
-use Rattle.std.specs.Prelude.{ℕ, ◌+◌, cond, List, [], ◌∷◌, length, Some, None, Ok, Err, Option, Result, ◌==◌, nat_lt}
+use Rattle.std.specs.Prelude.{ℕ, ◌+◌, cond, List, [], ◌∷◌, length, Some, None, Ok, Err, Option, Result, ◌==◌, ◌≡◌, nat_lt}
 use Rattle.std.specs.Option.{ok_or}
 use Rattle.cell.specs.declared.address.Address.{Address}
 use Rattle.code.specs.declared.register.Register.{Register}
@@ -51,6 +51,11 @@ registers a b c = register a >>= λ x. register b >>= λ y. register c >>= λ z.
 -- an instruction that names no label
 abbrev pub plain : Instruction → Result Unresolved Fault
 plain i = Ok (record { instruction = i; label = None })
+
+-- an answer made of three registers, by a rule that says which instruction can be made of them
+abbrev pub OfThree : (Register → Register → Register → Instruction → Type 0) → Result (Register × Register × Register) Fault → Result Unresolved Fault → Type 0
+OfThree Makes (Ok r) answer = (i : Instruction) × Makes r.0 r.1 r.2 i × (answer ≡ plain i)
+OfThree Makes (Err e) answer = answer ≡ Err e
 
 -- where a label's address comes once it is known
 abbrev pub unknown : Address

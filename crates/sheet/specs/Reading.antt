@@ -5,11 +5,11 @@ use Rattle.code.specs.declared.instruction.Instruction.{Instruction}
 use Rattle.code.specs.declared.instruction.Instruction.TheVariants.{Set, Proc, Load, Store, Add, Sub, Less, Jump, Zero, Push, Pop, Print, Call, Tail, CallCc, CallOnce, Forget, DynamicWind, Return, Stop}
 use Rattle.sheet.specs.declared.draft.Draft.{Draft}
 use Rattle.lexer.specs.declared.fault.Fault.{Fault}
-use Rattle.lexer.specs.declared.fault.Fault.TheVariants as F
+use Rattle.lexer.specs.declared.fault.Fault.TheVariants.{BadByte, UnknownWord, BadOperand, NumberOutOfRange, BadLabel, TooManyInstructions}
 use Rattle.sheet.specs.declared.label.Label.{Label}
 use Rattle.lexer.specs.declared.label_name.LabelName.{LabelName}
 use Rattle.sheet.specs.declared.refusal.SheetRefusal.{SheetRefusal}
-use Rattle.sheet.specs.declared.refusal.SheetRefusal.TheVariants.{TooLong, BadByte, UnknownWord, BadOperand, NumberOutOfRange, BadLabel, MissingLabel, TooManyInstructions, NoInstruction}
+use Rattle.sheet.specs.declared.refusal.SheetRefusal.TheVariants.{TooLong, AtLine, MissingLabel, NoInstruction}
 use Rattle.sheet.specs.Assembly.{Assembly, empty, target, line_taken}
 use Rattle.lexer.specs.Checks.{◌>>=◌}
 use Rattle.lexer.specs.Split.{lines}
@@ -18,35 +18,25 @@ use Rattle.lexer.specs.Split.{lines}
 
 -- a fault, met in a line
 abbrev pub at_line : Fault → ℕ → SheetRefusal
-at_line F.BadByte n = BadByte n
-at_line F.UnknownWord n = UnknownWord n
-at_line F.BadOperand n = BadOperand n
-at_line F.NumberOutOfRange n = NumberOutOfRange n
-at_line F.BadLabel n = BadLabel n
-at_line F.TooManyInstructions n = TooManyInstructions n
+at_line f n = AtLine f n
 
 -- the number of a refusal
 abbrev pub refusal_number : SheetRefusal → ℕ
 refusal_number TooLong = 1
-refusal_number (BadByte n) = 2
-refusal_number (UnknownWord n) = 3
-refusal_number (BadOperand n) = 4
-refusal_number (NumberOutOfRange n) = 5
-refusal_number (BadLabel n) = 6
+refusal_number (AtLine BadByte n) = 2
+refusal_number (AtLine UnknownWord n) = 3
+refusal_number (AtLine BadOperand n) = 4
+refusal_number (AtLine NumberOutOfRange n) = 5
+refusal_number (AtLine BadLabel n) = 6
 refusal_number (MissingLabel n) = 7
-refusal_number (TooManyInstructions n) = 8
+refusal_number (AtLine TooManyInstructions n) = 8
 refusal_number NoInstruction = 8
 
 -- the line of a refusal, 0 where it is about the whole sheet
 abbrev pub refusal_line : SheetRefusal → ℕ
 refusal_line TooLong = 0
-refusal_line (BadByte n) = n
-refusal_line (UnknownWord n) = n
-refusal_line (BadOperand n) = n
-refusal_line (NumberOutOfRange n) = n
-refusal_line (BadLabel n) = n
+refusal_line (AtLine f n) = n
 refusal_line (MissingLabel n) = n
-refusal_line (TooManyInstructions n) = n
 refusal_line NoInstruction = 0
 
 -- how a refusal is told, as `sheet 3 line 7`

@@ -26,6 +26,7 @@ pub enum Mnemonic {
     Stop,
 }
 
+/// All words, in the order of the definition `vocabulary`: `spelling` serves both ways, where a match on bytes would spell each word again.
 const VOCABULARY: [Mnemonic; 20] = [
     Mnemonic::Set,
     Mnemonic::Proc,

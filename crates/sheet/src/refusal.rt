@@ -10,14 +10,10 @@ use std::fmt;
 pub enum SheetRefusal {
     /// More bytes than a sheet may have.
     TooLong,
-    BadByte(u32),
-    UnknownWord(u32),
-    BadOperand(u32),
-    NumberOutOfRange(u32),
-    BadLabel(u32),
+    /// A fault in a line.
+    AtLine(Fault, u32),
     /// A label that no line defines, at the first line that names one.
     MissingLabel(u32),
-    TooManyInstructions(u32),
     NoInstruction,
 }
 
@@ -28,14 +24,7 @@ impl SheetRefusal {
     pub fn at_line(fault: Fault, line: u32) -> Self
         ensures { result ≡ at_line fault line }
     {
-        match fault {
-            Fault::BadByte => SheetRefusal::BadByte(line),
-            Fault::UnknownWord => SheetRefusal::UnknownWord(line),
-            Fault::BadOperand => SheetRefusal::BadOperand(line),
-            Fault::NumberOutOfRange => SheetRefusal::NumberOutOfRange(line),
-            Fault::BadLabel => SheetRefusal::BadLabel(line),
-            Fault::TooManyInstructions => SheetRefusal::TooManyInstructions(line),
-        }
+        SheetRefusal::AtLine(fault, line)
     }
 
     /// The number by which users know the refusal, 1 to 8.
@@ -44,13 +33,13 @@ impl SheetRefusal {
     {
         match self {
             SheetRefusal::TooLong => 1,
-            SheetRefusal::BadByte(_) => 2,
-            SheetRefusal::UnknownWord(_) => 3,
-            SheetRefusal::BadOperand(_) => 4,
-            SheetRefusal::NumberOutOfRange(_) => 5,
-            SheetRefusal::BadLabel(_) => 6,
+            SheetRefusal::AtLine(Fault::BadByte, _) => 2,
+            SheetRefusal::AtLine(Fault::UnknownWord, _) => 3,
+            SheetRefusal::AtLine(Fault::BadOperand, _) => 4,
+            SheetRefusal::AtLine(Fault::NumberOutOfRange, _) => 5,
+            SheetRefusal::AtLine(Fault::BadLabel, _) => 6,
             SheetRefusal::MissingLabel(_) => 7,
-            SheetRefusal::TooManyInstructions(_) | SheetRefusal::NoInstruction => 8,
+            SheetRefusal::AtLine(Fault::TooManyInstructions, _) | SheetRefusal::NoInstruction => 8,
         }
     }
 
@@ -60,13 +49,7 @@ impl SheetRefusal {
     {
         match self {
             SheetRefusal::TooLong | SheetRefusal::NoInstruction => 0,
-            SheetRefusal::BadByte(line)
-            | SheetRefusal::UnknownWord(line)
-            | SheetRefusal::BadOperand(line)
-            | SheetRefusal::NumberOutOfRange(line)
-            | SheetRefusal::BadLabel(line)
-            | SheetRefusal::MissingLabel(line)
-            | SheetRefusal::TooManyInstructions(line) => line,
+            SheetRefusal::AtLine(_, line) | SheetRefusal::MissingLabel(line) => line,
         }
     }
 }
