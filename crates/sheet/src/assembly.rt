@@ -48,7 +48,8 @@ impl Assembly {
 
     /// The labels so far.
     pub fn labels(&self) -> &[Label]
-        ensures { result.now ≡ self.now.labels }
+        ensures value { result.now ≡ self.now.labels }
+        ensures within { length result.now ≤ MOST_LABELS }
     {
         self.labels.as_slice()
     }

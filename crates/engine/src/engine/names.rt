@@ -79,9 +79,7 @@ impl<F: Store, W: Store> Engine<F, W> {
     fn add_row(&mut self, name: Name, once: bool) -> Result<(), End>
         ensures { (result, self.new) ≡ adding name once self.old }
     {
-        self.held
-            .add(HeldRow { name, once })
-            .map_err(|_| End::HeldLimit)
+        Ok(self.held.add(HeldRow { name, once })?)
     }
 
     /// The rows whose name has a Mark in the frames serve for many throws.
