@@ -65,6 +65,7 @@ impl Decoder {
 
     fn repeat(&mut self) -> Result<(), AllocError> {
         if let Some(part) = self.part.take() {
+            // `repeat` would make all of it once more, beside the sheet.
             for _ in 0..part.times {
                 self.sheet.extend_from_slice(&part.text)?;
             }

@@ -1,6 +1,6 @@
 use Rattle.std.proofs.Common.{◌<◌, length, sym, refl, ap, ◌∙◌, arith}
 use Rattle.std.proofs.lemmas.Bool.{eqb-false}
-use Rattle.lexer.proofs.Cursors.{next-line}
+use Rattle.lexer.proofs.Iterators.{next-line}
 use Rattle.lexer.proofs.lines.LinesIterator.next.Goals as goal
 
 pub returns-clause-steps : goal.returns-clause-steps

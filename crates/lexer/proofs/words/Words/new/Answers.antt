@@ -1,5 +1,5 @@
 use Rattle.lexer.specs.Split.{words}
-use Rattle.lexer.proofs.Cursors.{words_left-placed}
+use Rattle.lexer.proofs.Iterators.{words_left-placed}
 use Rattle.lexer.proofs.words.Words.new.Goals as goal
 
 pub returns-clause-words : goal.returns-clause-words

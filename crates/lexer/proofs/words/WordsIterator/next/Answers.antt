@@ -1,5 +1,5 @@
 use Rattle.std.proofs.Common.{length, ap, arith}
-use Rattle.lexer.proofs.Cursors.{next_start, next_word, last_word}
+use Rattle.lexer.proofs.Iterators.{next_start, next_word, last_word}
 use Rattle.lexer.proofs.words.WordsIterator.next.Goals as goal
 
 pub returns-in_default-clause-steps : goal.returns-in_default-clause-steps
