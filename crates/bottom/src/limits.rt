@@ -1,4 +1,4 @@
-//! The limits that a bottom store may be given.
+//! The limits that a bottom store may be given: a depth and a number of names, each by itself, as callers give them.
 ghost use Rattle.std.specs.Prelude.{◌≡◌, if◌then◌else◌};
 ghost use Rattle.bottom.specs.Limits.{in_range, cells_needed, accepted};
 

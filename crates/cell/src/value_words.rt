@@ -17,7 +17,7 @@ const PROCEDURE: u32 = 2;
 const CONTINUATION: u32 = 3;
 
 impl Value {
-    /// The word that tells a value's kind.
+    /// The word that tells a value's kind. Apart from `payload`, so that the words of a frame stand in one list.
     pub(crate) fn kind(self) -> u32
         ensures { result ≡ value_kind self }
     {

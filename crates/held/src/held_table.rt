@@ -15,7 +15,7 @@ use std::marker::Model;
 use store::store::Store;
 use store::typed::Typed;
 
-/// How many rows a table has room for.
+/// How many rows a table has room for: as many names as a run may hold, whatever its stores may.
 pub const ROWS: usize = 64;
 
 /// The rows of the held names, the oldest first. A table apart from that of a bottom store, which has a limit and refuses names.

@@ -1,4 +1,5 @@
-//! The nodes of a store, and how lists of them are shared, freed and used again.
+//! The nodes of a store, and how lists of them are shared, freed and used again. Clauses speak of nodes and numbers, not of a
+//! pool and a chain, since the invariants of the store do.
 ghost use Rattle.std.specs.Prelude.{◌≡◌, ℕ, ◌+◌, ◌^◌, ◌<◌, ◌≤◌, length, drop, slice_set};
 ghost use Rattle.linked.specs.Chains.{node_at};
 ghost use Rattle.linked.specs.Moves.{shared, HoldsSomehow, LetGo, TopDropped};

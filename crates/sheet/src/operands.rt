@@ -43,6 +43,7 @@ pub fn label(word: &[u8]) -> Result<LabelName, Fault>
     name(word).ok_or(Fault::BadOperand)
 }
 
+/// Three words, one by one, since a line has at most three operands and they come so.
 pub fn registers(a: &[u8], b: &[u8], c: &[u8]) -> Result<(Register, Register, Register), Fault>
     ensures { result ≡ three_read a.now b.now c.now }
 {

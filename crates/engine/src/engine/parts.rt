@@ -17,7 +17,7 @@ use machine::name_move::NameMove;
 use machine::wind_move::WindMove;
 use store::store::Store;
 
-/// The value at an index; beyond the last there is none.
+/// The value at an index; beyond the last there is none. Registers and globals are read and written by these two, a line for each.
 fn value_at(values: &[Value], index: usize) -> Value
     ensures { result ≡ slice_index_or values.now index Empty }
 {

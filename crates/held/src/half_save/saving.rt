@@ -1,4 +1,4 @@
-//! A half-save made, matched in the wind store, and given up.
+//! A half-save made, matched in the wind store, and given up. What each leaves of its store is two clauses, as at `Typed`.
 ghost use Rattle.std.specs.Prelude.{◌≡◌};
 ghost use Rattle.cell.specs.Elements.{frame_in, frame_words, wind_in, wind_words};
 ghost use Rattle.store.specs.Meaning.{saved, released};
