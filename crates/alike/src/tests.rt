@@ -81,5 +81,6 @@ fn lent_store_keeps_what_its_list_was_given(rt: HostRuntime) -> Result<(), Fail>
     assert_eq!(rt; frames.push(Frame::Back(Address(7))), Ok(()));
     assert_eq!(rt; frames.top(), Some(Frame::Back(Address(7))));
     assert_eq!(rt; frames.store().len(), 1);
+    assert_eq!(rt; store.len(), 1);
     Ok(())
 }

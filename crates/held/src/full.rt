@@ -8,7 +8,7 @@ use machine::end::End;
 #[derive(Clone, Copy, PartialEq, Eq, Debug)]
 pub struct Full;
 
-/// With no row left, the name has no room.
+/// With no row left, the name has no room. As a refused save does, but that is another type, with what a store said in it.
 impl From<Full> for End {
     ghost from_gives = { λ e y. y ≡ HeldLimit };
 

@@ -87,6 +87,7 @@ impl<S: Store> Store for Cache<S> {
     }
 
     fn pop(&mut self) -> Result<Cell, Refusal> {
+        // With no cell of its own, the store below answers.
         match self.cells.pop() {
             Some(cell) => Ok(cell),
             None => self.below.pop(),

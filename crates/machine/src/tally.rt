@@ -23,7 +23,7 @@ pub struct WindTally {
     pub current: u32,
 }
 
-/// How a run ended, and the last address that it was Going at: callers are told 0 where there was none.
+/// How a run ended, and the last address that it was Going at: callers are told an address in every case, 0 where there was none.
 #[derive(Clone, Copy, PartialEq, Eq, Debug)]
 pub struct Ending {
     pub end: End,

@@ -38,6 +38,8 @@ impl<'a> LineGuard<'a> {
         requires { length self.now.old.items + length piece.now ≤ longest_line }
         ensures room { OnSome result (next self.entry.now + length piece.now ≤ length self.entry.now.bytes.now) }
         ensures none { IfNone result (length self.entry.now.bytes.now < next self.entry.now + length piece.now) }
+        ensures unchanged { IfNone result (self.exit.now.bytes.now ≡ self.entry.now.bytes.now) }
+        ensures kept { IfNone result (self.exit.now.old.items ≡ self.entry.now.old.items) }
         ensures bytes { OnSome result (self.exit.now.bytes.now ≡ overwrite self.entry.now.bytes.now (next self.entry.now) piece.now) }
         ensures len { OnSome result (length self.exit.now.old.items ≡ length self.entry.now.old.items + length piece.now) }
         ensures restores { restored self.exit.now ≡ restored self.entry.now }

@@ -122,6 +122,7 @@ impl Store for Copied {
         Ok(words::read_cell(self.memory.as_slice(), index as usize))
     }
 
+    // What follows, but for a saved cell, is a line or two each, as in the other bottom store: a trait for it would have as many.
     fn saved_len(&self, name: Name) -> Result<u32, Refusal> {
         let row = self.table.get(name)?;
         Ok(row.len)
@@ -136,7 +137,6 @@ impl Store for Copied {
         Ok(words::read_cell(self.memory.as_slice(), start + index as usize))
     }
 
-    // From here on one line each, as in the other bottom store: a trait for them would have as many.
     fn held(&self) -> u32 {
         self.table.held()
     }

@@ -129,6 +129,7 @@ impl Store for Linked {
         self.cell_of(self.current, index)
     }
 
+    // What follows, but for a saved cell, is a line or two each, as in the other bottom store: a trait for it would have as many.
     fn saved_len(&self, name: Name) -> Result<u32, Refusal> {
         let row = self.table.get(name)?;
         Ok(row.len)
@@ -140,7 +141,6 @@ impl Store for Linked {
         self.cell_of(list, index)
     }
 
-    // From here on one line each, as in the other bottom store: a trait for them would have as many.
     fn held(&self) -> u32 {
         self.table.held()
     }
