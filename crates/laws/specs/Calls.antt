@@ -89,8 +89,8 @@ CallsJoin =
 pub record SameAnswers (x y : Served) : Type 0 where
   pub output : output_of x ≡ output_of y
   pub tally : tallied x.1.state None ≡ tallied y.1.state None
-  pub look : (i : ℕ) → looked x.1.state i ≡ looked y.1.state i
-  pub force : (i : ℕ) → forced x.1.state i ≡ forced y.1.state i
+  pub look : (i : ℕ) → looked x.1 i ≡ looked y.1 i
+  pub force : (i : ℕ) → forced x.1 i ≡ forced y.1 i
   pub state : x.1.state ≡ y.1.state
 
 -- two runs of one code from equal numbers, the first under the limits l and the second under m
