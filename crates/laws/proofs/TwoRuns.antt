@@ -1,12 +1,13 @@
 -- Two runs, at every two moments.
 use Rattle.std.proofs.Common.{◌≡◌, ℕ, zero, suc, Bool, true, false, List, [], ◌∷◌, take, ℤ, Some, sym, refl, ap, ◌∙◌, subst, subst₂}
+use Rattle.std.proofs.lemmas.Bool.{cond-false}
 use Rattle.std.specs.List.{slice_get}
 use Rattle.code.specs.declared.instruction.Instruction.{Instruction}
 use Rattle.machine.specs.declared.end.End.{End}
 use Rattle.machine.specs.declared.end.End.TheVariants.{UnfitStores}
 use Rattle.machine.specs.declared.tally.Tally.{Tally}
 use Rattle.machine.specs.State.{Limits}
-use Rattle.machine.specs.Opening.{Offer, Run, both_fit, limits_of, started, opened}
+use Rattle.machine.specs.Opening.{Offer, Run, both_fit, limits_of, started, unfit, opened}
 use Rattle.machine.specs.Calls.{Call, run, tally, look, force, Answer, to_run, to_tally, to_look, to_force, tallied, answered, served}
 use Rattle.laws.specs.Limits.{IsLimit}
 use Rattle.laws.specs.Counts.{Conserved}
@@ -86,7 +87,8 @@ module _ (code : List Instruction) (numbers : List ℤ) where
         go true h = let c = one_course i h in (c.told, c.conserved)
         go false h =
             let d = idle i h in
-            rw (d.run, d.steps) (refl, record { names = refl; winds = refl })
+            rw (d.run, d.steps, cond-false (both_fit frames winds) (started code numbers (limits_of frames winds)) (unfit code frames winds) h)
+            (refl, record { names = refl; winds = refl })
 
     pub as_defined : AsDefined code numbers (defined frames winds calls)
     as_defined = record {
