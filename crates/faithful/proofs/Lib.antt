@@ -1,6 +1,10 @@
 pub mod Facts
 pub mod Legal
 pub mod Follows
+pub mod PlansNames
+pub mod PlansTops
+pub mod Plans
+pub mod PlansLegal
 pub mod Courses
 pub mod Stubs
 pub mod Steps

@@ -21,10 +21,18 @@ use Rattle.faithful.proofs.Facts.{Facts, Small}
 use Rattle.faithful.proofs.Legal.{LegalPlan}
 use Rattle.faithful.proofs.Follows.{Follows}
 use Rattle.faithful.proofs.Courses.{Lawful, lawful}
-use Rattle.faithful.proofs.Stubs.{counted_alike, act_follows, plans_alike, plan_legal}
+use Rattle.faithful.proofs.PlansNames.{Looked, unknown, known, looked}
+use Rattle.faithful.proofs.Plans.{plans_alike}
+use Rattle.faithful.proofs.PlansLegal.{plan_legal}
+use Rattle.faithful.proofs.Stubs.{counted_alike, act_follows}
 
+-- a name that no capture has is in no row
 unheld_row : (p : Parts) (n : ℕ) → Together p → find capture_name (state_from p).held n ≡ None → find row_name p.rows n ≡ None
-unheld_row p n h e = ?
+unheld_row p n h e = by (looked n p.frames.held p.winds.held p.rows h)
+  where
+    by : Looked n p.frames.held p.winds.held p.rows → find row_name p.rows n ≡ None
+    by (unknown f w row c) = row
+    by (known once fs ws f w row c) = cc (c, e)
 
 -- as long as a step more can be made
 facts : (code : List Instruction) (p : Parts) → Sound code p → p.counts.steps < most_steps → Facts p
