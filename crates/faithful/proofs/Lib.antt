@@ -5,8 +5,16 @@ pub mod PlansNames
 pub mod PlansTops
 pub mod Plans
 pub mod PlansLegal
+pub mod ActsLists
+pub mod ActsStages
+pub mod ActsNames
+pub mod ActsCounts
+pub mod ActsMoves
+pub mod ActsRooms
+pub mod ActsHeld
+pub mod ActsEnds
+pub mod Acts
 pub mod Courses
-pub mod Stubs
 pub mod Steps
 pub mod Turns
 pub mod Portions

@@ -24,7 +24,8 @@ use Rattle.faithful.proofs.Courses.{Lawful, lawful}
 use Rattle.faithful.proofs.PlansNames.{Looked, unknown, known, looked}
 use Rattle.faithful.proofs.Plans.{plans_alike}
 use Rattle.faithful.proofs.PlansLegal.{plan_legal}
-use Rattle.faithful.proofs.Stubs.{counted_alike, act_follows}
+use Rattle.faithful.proofs.ActsCounts.{counted_alike}
+use Rattle.faithful.proofs.Acts.{act_follows}
 
 -- a name that no capture has is in no row
 unheld_row : (p : Parts) (n : ℕ) → Together p → find capture_name (state_from p).held n ≡ None → find row_name p.rows n ≡ None
