@@ -56,17 +56,19 @@ module _ (p : Parts) (h : Facts p) where
   start : At s.frames s.winds s.held p
   start = begins p h.together
 
+  -- An act for each shape.
+
   writes : (w : Write) (m : Mode) → Done p (writing w (moves m))
-  writes w m = ends p p s.frames s.winds s.held start (writing w (moves m)) refl h.small refl refl refl
+  writes w m = ends start (writing w (moves m)) refl h.small refl refl refl
 
   tells : (z : ℤ) (m : Mode) → Done p (printing z (moves m))
-  tells z m = (refl, refl, (ends p p s.frames s.winds s.held start (moves m) refl h.small refl refl refl).1)
+  tells z m = (refl, refl, (ends start (moves m) refl h.small refl refl refl).1)
 
   -- a push, and then something else
-  pushed : (f : Frame) (next : Parts → Carried Step) (a : Act) → a.line ≡ None
+  pushed : (f : Frame) (next : Parts → Carried Step) (a : Act)
       → ((r : Parts) → At (f ∷ s.frames) s.winds s.held r → Follows p (admit s a None) (next r))
       → Follows p (admit s a (first_refusal l (frames_pass l s 1) true true)) (pushing f p then next)
-  pushed f next a e = gate (At (f ∷ s.frames) s.winds s.held) (pushing f p) p (λ b. admit s a (first_refusal l b true true)) (frames_pass l s 1) (FrameLimit l.frames_level) next refl (push_checks p h.together f)
+  pushed f next a = gate (At (f ∷ s.frames) s.winds s.held) (pushing f p) p (λ b. admit s a (first_refusal l b true true)) (frames_pass l s 1) (FrameLimit l.frames_level) next refl (push_checks p h.together f)
 
   -- a wind is entered, and then something else
   entered : (w : Wind) (next : Parts → Carried Step) (a : Act)
@@ -77,7 +79,7 @@ module _ (p : Parts) (h : Facts p) where
   one : (f : Frame) (m : Mode) → Done p (framing (Push f) (moves m))
   one f m =
       let a : Act = framing (Push f) (moves m) in
-      pushed f _ a refl (λ r i. ends p r (f ∷ s.frames) s.winds s.held i a refl h.small refl refl refl)
+      pushed f _ a (λ r i. ends i a refl h.small refl refl refl)
 
   both : (f g : Frame) (m : Mode) → Done p (framing (PushBoth f g) (moves m))
   both f g m =
@@ -85,15 +87,15 @@ module _ (p : Parts) (h : Facts p) where
       let o = admit s a None in
       gate (λ r. (r ≡ p) × (length s.frames + 2 ≤ l.frames)) (frame_room 2 p) p (λ b. admit s a (first_refusal l b true true)) (frames_pass l s 2) (FrameLimit l.frames_level) _ refl (frame_room_checks p h.together 1)
       (λ r k. rw k.0
-      (after (At (f ∷ s.frames) s.winds s.held) (pushing f p) (Follows p o) _ (Moves.pushes p p s.frames s.winds s.held start f (omega (arith, k.1)))
-      (λ r i. after (At (g ∷ f ∷ s.frames) s.winds s.held) (pushing g r) (Follows p o) _ (Moves.pushes p r (f ∷ s.frames) s.winds s.held i g (omega (arith, k.1)))
-      (λ r i. ends p r (g ∷ f ∷ s.frames) s.winds s.held i a refl h.small refl refl refl))))
+      (after (At (f ∷ s.frames) s.winds s.held) (pushing f p) (Follows p o) _ (Moves.pushes start f (omega (arith, k.1)))
+      (λ r i. after (At (g ∷ f ∷ s.frames) s.winds s.held) (pushing g r) (Follows p o) _ (Moves.pushes i g (omega (arith, k.1)))
+      (λ r i. ends i a refl h.small refl refl refl))))
 
   dropped : (w : Write) (m : Mode) → SomeFrame p → Done p (framing Pop (writing w (moves m)))
   dropped w m (f, fs, e) =
       let a : Act = framing Pop (writing w (moves m)) in
-      after (At fs s.winds s.held) (popping p then idle) (Follows p (admit s a None)) _ (Moves.drops p p s.frames s.winds s.held start f fs e)
-      (λ r i. ends p r fs s.winds s.held i a refl h.small (sym (ap below e)) refl refl)
+      after (At fs s.winds s.held) (popping p then idle) (Follows p (admit s a None)) _ (Moves.drops start f fs e)
+      (λ r i. ends i a refl h.small (sym (ap below e)) refl refl)
 
   -- Winds.
 
@@ -103,29 +105,29 @@ module _ (p : Parts) (h : Facts p) where
       let w : Wind = Acting.new_wind p before after' in
       let same : w ≡ new_wind s before after' = ap {B = Wind} (λ n. record { number = record { 0 = n }; before = before; after = after' }) (up-is p.counts.numbered h.small.numbered) in
       entered w _ a
-      (λ q i. after (At (f ∷ gs) (w ∷ s.winds) s.held) (replacing f q) (Follows p (admit s a None)) _ (Moves.replaces p q s.frames (w ∷ s.winds) s.held i f g gs e within)
-      (λ r i. ends p r (f ∷ gs) (w ∷ s.winds) s.held i a refl h.small (sym (ap (replaced f) e)) (ap (λ w. w ∷ s.winds) same) refl))
+      (λ q i. after (At (f ∷ gs) (w ∷ s.winds) s.held) (replacing f q) (Follows p (admit s a None)) _ (Moves.replaces i f g gs e within)
+      (λ r i. ends i a refl h.small (sym (ap (replaced f) e)) (ap (λ w. w ∷ s.winds) same) refl))
 
   closed : (f : Frame) (m : Mode) → SomeFrame p → SomeWind p → Done p (winding Leave (framing (Replace f) (moves m)))
   closed f m (g, gs, e) (w, ws, d) =
       let a : Act = winding Leave (framing (Replace f) (moves m)) in
-      after (At (f ∷ gs) s.winds s.held) (replacing f p) (Follows p (admit s a None)) _ (Moves.replaces p p s.frames s.winds s.held start f g gs e within)
-      (λ q i. after (At (f ∷ gs) ws s.held) (leaving q then idle) (Follows p (admit s a None)) _ (Moves.quits p q (f ∷ gs) s.winds s.held i w ws d)
-      (λ r i. ends p r (f ∷ gs) ws s.held i a refl h.small (sym (ap (replaced f) e)) (sym (ap below d)) refl))
+      after (At (f ∷ gs) s.winds s.held) (replacing f p) (Follows p (admit s a None)) _ (Moves.replaces start f g gs e within)
+      (λ q i. after (At (f ∷ gs) ws s.held) (leaving q then idle) (Follows p (admit s a None)) _ (Moves.quits i w ws d)
+      (λ r i. ends i a refl h.small (sym (ap (replaced f) e)) (sym (ap below d)) refl))
 
   left : (f : Frame) (m : Mode) → SomeWind p → Done p (winding Leave (framing (Push f) (moves m)))
   left f m (w, ws, d) =
       let a : Act = winding Leave (framing (Push f) (moves m)) in
-      pushed f _ a refl
-      (λ q i. after (At (f ∷ s.frames) ws s.held) (leaving q then idle) (Follows p (admit s a None)) _ (Moves.quits p q (f ∷ s.frames) s.winds s.held i w ws d)
-      (λ r i. ends p r (f ∷ s.frames) ws s.held i a refl h.small refl (sym (ap below d)) refl))
+      pushed f _ a
+      (λ q i. after (At (f ∷ s.frames) ws s.held) (leaving q then idle) (Follows p (admit s a None)) _ (Moves.quits i w ws d)
+      (λ r i. ends i a refl h.small refl (sym (ap below d)) refl))
 
   reentered : (w : Wind) (m : Mode) → SomeFrame p → Done p (winding (Reenter w) (framing Pop (moves m)))
   reentered w m (f, fs, e) =
       let a : Act = winding (Reenter w) (framing Pop (moves m)) in
       entered w _ a
-      (λ q i. after (At fs (w ∷ s.winds) s.held) (popping q then idle) (Follows p (admit s a None)) _ (Moves.drops p q s.frames (w ∷ s.winds) s.held i f fs e)
-      (λ r i. ends p r fs (w ∷ s.winds) s.held i a refl h.small (sym (ap below e)) refl refl))
+      (λ q i. after (At fs (w ∷ s.winds) s.held) (popping q then idle) (Follows p (admit s a None)) _ (Moves.drops i f fs e)
+      (λ r i. ends i a refl h.small (sym (ap below e)) refl refl))
 
   -- Names.
 
@@ -151,9 +153,9 @@ module _ (p : Parts) (h : Facts p) where
       let fs : List Frame = f ∷ s.frames in
       let cs : List Capture = promoted fs s.held ++ (took n false fs s.winds ∷ []) in
       room_gate p h.together 0 (λ x y. admit s a (first_refusal l x true y)) _ (λ y. refl) refl
-      (λ k c. after (At fs s.winds s.held) (pushing f p) (Follows p o) _ (Moves.pushes p p s.frames s.winds s.held start f (omega (arith, k)))
-      (λ q i. after (At fs s.winds cs) (holding_many n q) (Follows p o) _ (holds_many p q fs s.winds s.held i n n-free n-positive c)
-      (λ r i. ends p r fs s.winds cs i a refl h.small refl refl (ap (λ n. promoted fs s.held ++ (took n false fs s.winds ∷ [])) next-is))))
+      (λ k c. after (At fs s.winds s.held) (pushing f p) (Follows p o) _ (Moves.pushes start f (omega (arith, k)))
+      (λ q i. after (At fs s.winds cs) (holding_many n q) (Follows p o) _ (holds_many i n n-free n-positive c)
+      (λ r i. ends i a refl h.small refl refl (ap (λ n. promoted fs s.held ++ (took n false fs s.winds ∷ [])) next-is))))
 
   once : (f g : Frame) (w : Write) (m : Mode) → Done p (naming SaveOnce (writing w (framing (PushBoth f g) (moves m))))
   once f g w m =
@@ -162,38 +164,38 @@ module _ (p : Parts) (h : Facts p) where
       let fs : List Frame = f ∷ s.frames in
       let cs : List Capture = s.held ++ (took n true fs s.winds ∷ []) in
       room_gate p h.together 1 (λ x y. admit s a (first_refusal l x true y)) _ (λ y. refl) refl
-      (λ k c. after (At fs s.winds s.held) (pushing f p) (Follows p o) _ (Moves.pushes p p s.frames s.winds s.held start f (omega (arith, k)))
-      (λ q i. after (At fs s.winds cs) (holding_once n q) (Follows p o) _ (holds_once p q fs s.winds s.held i n n-free n-positive c)
-      (λ q i. after (At (g ∷ fs) s.winds cs) (pushing g q) (Follows p o) _ (Moves.pushes p q fs s.winds cs i g (omega (arith, k)))
-      (λ r i. ends p r (g ∷ fs) s.winds cs i a refl h.small refl refl (ap (λ n. s.held ++ (took n true fs s.winds ∷ [])) next-is)))))
+      (λ k c. after (At fs s.winds s.held) (pushing f p) (Follows p o) _ (Moves.pushes start f (omega (arith, k)))
+      (λ q i. after (At fs s.winds cs) (holding_once n q) (Follows p o) _ (holds_once i n n-free n-positive c)
+      (λ q i. after (At (g ∷ fs) s.winds cs) (pushing g q) (Follows p o) _ (Moves.pushes i g (omega (arith, k)))
+      (λ r i. ends i a refl h.small refl refl (ap (λ n. s.held ++ (took n true fs s.winds ∷ [])) next-is)))))
 
   forgotten : (n : Name) (m : Mode) → IsHeld p n → Done p (naming (Forget n) (moves m))
   forgotten n m (c, e) =
       let a : Act = naming (Forget n) (moves m) in
       let cs : List Capture = without capture_name s.held n.0 in
-      after (At s.frames s.winds cs) (release Keep n p) (Follows p (admit s a None)) _ (releases p p s.frames s.winds s.held start n c e)
-      (λ r i. ends p r s.frames s.winds cs i a refl h.small refl refl refl)
+      after (At s.frames s.winds cs) (release Keep n p) (Follows p (admit s a None)) _ (releases start n c e)
+      (λ r i. ends i a refl h.small refl refl refl)
 
   used : (n : Name) (m : Mode) → IsHeld p n → SomeFrame p → Done p (naming (Use n) (framing Pop (moves m)))
   used n m (c, e) (f, fs, d) =
       let a : Act = naming (Use n) (framing Pop (moves m)) in
       let cs : List Capture = without capture_name s.held n.0 in
-      after (At fs s.winds s.held) (popping p then idle) (Follows p (admit s a None)) _ (Moves.drops p p s.frames s.winds s.held start f fs d)
-      (λ q i. after (At fs s.winds cs) (release Keep n q) (Follows p (admit s a None)) _ (releases p q fs s.winds s.held i n c e)
-      (λ r i. ends p r fs s.winds cs i a refl h.small (sym (ap below d)) refl refl))
+      after (At fs s.winds s.held) (popping p then idle) (Follows p (admit s a None)) _ (Moves.drops start f fs d)
+      (λ q i. after (At fs s.winds cs) (release Keep n q) (Follows p (admit s a None)) _ (releases i n c e)
+      (λ r i. ends i a refl h.small (sym (ap below d)) refl refl))
 
   landed : (n : Name) (w : Write) (m : Mode) → IsHeld p n → Done p (writing w (framing (Restore n) (moves m)))
   landed n w m (c, e) =
       let a : Act = writing w (framing (Restore n) (moves m)) in
-      after (At c.frames s.winds s.held) (restoring n p) (Follows p (admit s a None)) _ (restores p p s.frames s.winds s.held start n c e)
-      (λ r i. ends p r c.frames s.winds s.held i a refl h.small (sym (ap (λ o. saved_frames o s.frames) e)) refl refl)
+      after (At c.frames s.winds s.held) (restoring n p) (Follows p (admit s a None)) _ (restores start n c e)
+      (λ r i. ends i a refl h.small (sym (ap (λ o. saved_frames o s.frames) e)) refl refl)
 
   landed_using : (n : Name) (w : Write) (m : Mode) → IsHeld p n → Done p (writing w (naming (Use n) (framing (Restore n) (moves m))))
   landed_using n w m (c, e) =
       let a : Act = writing w (naming (Use n) (framing (Restore n) (moves m))) in
       let cs : List Capture = without capture_name s.held n.0 in
-      after_both (At c.frames s.winds cs) (taking n p) (release (Restore n) n) (Follows p (admit s a None)) _ (takes p p s.frames s.winds s.held start n c e)
-      (λ r i. ends p r c.frames s.winds cs i a refl h.small (sym (ap (λ o. saved_frames o s.frames) e)) refl refl)
+      after_both (At c.frames s.winds cs) (taking n p) (release (Restore n) n) (Follows p (admit s a None)) _ (takes start n c e)
+      (λ r i. ends i a refl h.small (sym (ap (λ o. saved_frames o s.frames) e)) refl refl)
 
 -- every act of a plan
 pub act_follows : (p : Parts) (a : Act) → Facts p → Legal p a → Follows p (admit (state_from p) a (refusal (limits_from p) (state_from p) a)) (acting a.line a p)

@@ -22,11 +22,12 @@ use Rattle.faithful.proofs.ActsStages.{placed, Stands}
 abbrev wrote : State → State → Write → State
 wrote s t w = record t { registers = registers_after s w; globals = globals_after s w }
 
--- a state with another mode, the counts of a step in words
+-- a state with another mode, after one step more by the counts in words
 abbrev over : State → Mode → WindMove → NameMove → State
 over s m w n = record s { mode = m; tried = trying s.mode s.tried; counts = counted_up s.counts w n }
 
-module _ (p r : Parts) (fs : List Frame) (ws : List Wind) (cs : List Capture) (i : Stands p r fs ws cs) where
+module _ {p r : Parts} {fs : List Frame} {ws : List Wind} {cs : List Capture} (i : Stands p r fs ws cs) where
+  -- a write changes its register or global alone
   writes : (w : Write) → Reach p (written w r) (wrote (state_from p) (placed p fs ws cs) w)
   writes Nothing = i
   writes (ToRegister x v) =

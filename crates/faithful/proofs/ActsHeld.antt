@@ -39,29 +39,29 @@ rows_without n q h =
     rw (store-without n q.frames.held, store-without n q.winds.held)
     (joined-without pair_name pair_name row_name capture_name captured (λ x y z. refl) n q.frames.held q.winds.held q.rows h)
 
-module _ (p q : Parts) (fs : List Frame) (ws : List Wind) (cs : List Capture) (i : Stands p q fs ws cs) where
+module _ {p q : Parts} {fs : List Frame} {ws : List Wind} {cs : List Capture} (i : Stands p q fs ws cs) where
   freed_stands : (n : ℕ) (xs gs : List Frame) → reverse xs ≡ gs → Stands p (freed q xs n) gs ws (Named.without capture_name cs n)
   freed_stands n xs gs e =
       let j = rows_without n q i.together in
       record {
         state =
             ap {A = State} {B = State} (λ s. record s { frames = reverse xs; held = (state_from (freed q xs n)).held }) i.state
-            ∙ ap₂ (λ gs cs. placed p gs ws cs) e (j.1 ∙ ap (λ cs. Named.without capture_name cs n) (its-held p q fs ws cs i));
+            ∙ ap₂ (λ gs cs. placed p gs ws cs) e (j.1 ∙ ap (λ cs. Named.without capture_name cs n) (its-held i));
         limits = i.limits;
         together = j.0;
       }
 
   module _ (n : Name) (c : Capture) (e : find capture_name cs n.0 ≡ Some c) where
     saved : Saves n.0 q.frames.held q.winds.held q.rows c
-    saved = saves n.0 q.frames.held q.winds.held q.rows c (looked n.0 q.frames.held q.winds.held q.rows i.together) (ap (λ cs. find capture_name cs n.0) (its-held p q fs ws cs i) ∙ e)
+    saved = saves n.0 q.frames.held q.winds.held q.rows c (looked n.0 q.frames.held q.winds.held q.rows i.together) (ap (λ cs. find capture_name cs n.0) (its-held i) ∙ e)
 
     -- the frames saved under it are current
     pub restores : Passes (λ r. Stands p r c.frames ws cs) (restoring n q)
-    restores = rw saved.in_frames (reframed p q fs ws cs i saved.frames c.frames saved.same_frames)
+    restores = rw saved.in_frames (reframed i saved.frames c.frames saved.same_frames)
 
     -- it is held no more
     pub releases : Passes (λ r. Stands p r fs ws (Named.without capture_name cs n.0)) (release Keep n q)
-    releases = rw (saved.in_frames, saved.in_winds) (freed_stands n.0 q.frames.current fs (its-frames p q fs ws cs i))
+    releases = rw (saved.in_frames, saved.in_winds) (freed_stands n.0 q.frames.current fs (its-frames i))
 
     -- both
     pub takes : Passes (λ r. Stands p r c.frames ws (Named.without capture_name cs n.0)) (taking n q then release (Restore n) n)
@@ -85,7 +85,7 @@ given q n once zs = with_rows (with_winds (with_frames q (keeping q.frames n.0))
 abbrev pub took : Name → Bool → List Frame → List Wind → Capture
 took n once fs ws = record { name = n; once = once; frames = fs; winds = ws }
 
-module _ (p q : Parts) (fs : List Frame) (ws : List Wind) (cs : List Capture) (i : Stands p q fs ws cs) where
+module _ {p q : Parts} {fs : List Frame} {ws : List Wind} {cs : List Capture} (i : Stands p q fs ws cs) where
   given_stands : (n : Name) (once : Bool) (zs : List HeldRow) (ds : List Capture) → Fit q.frames.held q.winds.held zs → joined captured q.frames.held q.winds.held zs ≡ ds
       → Stands p (given q n once zs) fs ws (ds ++ (took n once fs ws ∷ []))
   given_stands n once zs ds h e =
@@ -96,32 +96,32 @@ module _ (p q : Parts) (fs : List Frame) (ws : List Wind) (cs : List Capture) (i
       record {
         state =
             ap {A = State} {B = State} (λ s. record s { held = (state_from (given q n once zs)).held }) i.state
-            ∙ ap (placed p fs ws) (j.1 ∙ cc (e, its-frames p q fs ws cs i, its-winds p q fs ws cs i));
+            ∙ ap (placed p fs ws) (j.1 ∙ cc (e, its-frames i, its-winds i));
         limits = i.limits;
         together = j.0;
       }
 
   module _ (n : Name) (e : find capture_name cs n.0 ≡ None) (z : eqb n.0 0 ≡ false) (l : length cs < (limits_from p).held) where
+    -- both stores and the rows have room
+    few : length q.rows < (limits_from q).held
+    few =
+        let same = ap (λ l. l.held) i.limits in
+        let many = ap length (its-held i) in
+        omega (arith, l, same, many, (lengths q.frames.held q.winds.held q.rows i.together).2)
+
     saving-is : saving n q ≡ (Ok tt, with_winds (with_frames q (keeping q.frames n.0)) (keeping q.winds n.0))
     saving-is =
-        let same : (limits_from q).held ≡ (limits_from p).held = ap (λ l. l.held) i.limits in
         let k = lengths q.frames.held q.winds.held q.rows i.together in
-        let u = unsaved n.0 q.frames.held q.winds.held q.rows (looked n.0 q.frames.held q.winds.held q.rows i.together) (ap (λ cs. find capture_name cs n.0) (its-held p q fs ws cs i) ∙ e) in
-        let many = ap length (its-held p q fs ws cs i) in
-        let f : leb q.frames.held_limit (length q.frames.held) ≡ false = grind (arith, same, k, many) in
-        let w : leb q.winds.held_limit (length q.winds.held) ≡ false = grind (arith, same, k, many) in
+        let u = unsaved n.0 q.frames.held q.winds.held q.rows (looked n.0 q.frames.held q.winds.held q.rows i.together) (ap (λ cs. find capture_name cs n.0) (its-held i) ∙ e) in
+        let f : leb q.frames.held_limit (length q.frames.held) ≡ false = grind (arith, few, k.0) in
+        let w : leb q.winds.held_limit (length q.winds.held) ≡ false = grind (arith, few, k.1) in
         rw (saved-is q.frames n.0 u.0 z f, saved-is q.winds n.0 u.1 z w)
 
-    -- the rows have room
     room : (zs : List HeldRow) → length zs ≡ length q.rows → ltb (length zs) most_held ≡ true
-    room zs long =
-        let same : (limits_from q).held ≡ (limits_from p).held = ap (λ l. l.held) i.limits in
-        let k = lengths q.frames.held q.winds.held q.rows i.together in
-        let many = ap length (its-held p q fs ws cs i) in
-        lt-ltb (length zs) most_held (omega (arith, same, k.2, many))
+    room zs long = lt-ltb (length zs) most_held (omega (arith, few, long))
 
     pub holds_once : Passes (λ r. Stands p r fs ws (cs ++ (took n true fs ws ∷ []))) (holding_once n q)
-    holds_once = rw (saving-is, room q.rows refl) (given_stands n true q.rows cs i.together (its-held p q fs ws cs i))
+    holds_once = rw (saving-is, room q.rows refl) (given_stands n true q.rows cs i.together (its-held i))
 
     pub holds_many : Passes (λ r. Stands p r fs ws (promoted fs cs ++ (took n false fs ws ∷ []))) (holding_many n q)
     holds_many =
@@ -129,4 +129,4 @@ module _ (p q : Parts) (fs : List Frame) (ws : List Wind) (cs : List Capture) (i
         let zs : List HeldRow = changed_all row_name test for_many q.rows in
         let j = joined-changed pair_name pair_name row_name capture_name captured (λ x y z. refl) test for_many State.for_many (λ z. refl) (λ x y z. refl) q.frames.held q.winds.held q.rows i.together in
         rw (saving-is, room zs (length-map _ _))
-        (given_stands n false zs (promoted fs cs) j.0 (j.1 ∙ ap₂ (λ gs ds. promoted gs ds) (its-frames p q fs ws cs i) (its-held p q fs ws cs i)))
+        (given_stands n false zs (promoted fs cs) j.0 (j.1 ∙ ap₂ (λ gs ds. promoted gs ds) (its-frames i) (its-held i)))

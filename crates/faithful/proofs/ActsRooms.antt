@@ -35,7 +35,7 @@ module _ (p : Parts) (t : Together p) where
     where
       by : (b : Bool) → leb (length (state_from p).frames + 1) p.frames.depth_limit ≡ b
           → Checks p b (FrameLimit p.frames.limit_level) (λ r. Stands p r (f ∷ (state_from p).frames) (state_from p).winds (state_from p).held) (pushing f p)
-      by true e = pushes p p (state_from p).frames (state_from p).winds (state_from p).held (begins p t) f (omega (arith, leb-true _ _ e))
+      by true e = pushes (begins p t) f (omega (arith, leb-true _ _ e))
       by false e = rw (full-is p.frames f (omega (arith, leb-false _ _ e, length-reverse p.frames.current))) (refl, begins p t)
 
   -- a wind
@@ -45,7 +45,7 @@ module _ (p : Parts) (t : Together p) where
     where
       by : (b : Bool) → ltb (length (state_from p).winds) p.winds.depth_limit ≡ b
           → Checks p b (WindLimit p.winds.limit_level) (λ r. Stands p r (state_from p).frames (w ∷ (state_from p).winds) (state_from p).held) (entering w p)
-      by true e = enters p p (state_from p).frames (state_from p).winds (state_from p).held (begins p t) w (omega (arith, ltb-true _ _ e))
+      by true e = enters (begins p t) w (omega (arith, ltb-true _ _ e))
       by false e = rw (full-is p.winds w (grind (arith, e, length-reverse p.winds.current))) (refl, begins p t)
 
   -- room that is asked for by a test of its own, which tells X

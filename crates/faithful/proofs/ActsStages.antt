@@ -60,32 +60,32 @@ placed p fs ws cs = record (state_from p) { frames = fs; winds = ws; held = cs }
 abbrev pub Stands : Parts → Parts → List Frame → List Wind → List Capture → Type 0
 Stands p q fs ws cs = Reach p q (placed p fs ws cs)
 
-module _ (p : Parts) where
-  pub begins : Together p → Stands p p (state_from p).frames (state_from p).winds (state_from p).held
-  begins t = record { state = refl; limits = refl; together = t }
+-- where it begins
+pub begins : (p : Parts) → Together p → Stands p p (state_from p).frames (state_from p).winds (state_from p).held
+begins p t = record { state = refl; limits = refl; together = t }
 
-  module _ (q : Parts) (fs : List Frame) (ws : List Wind) (cs : List Capture) (i : Stands p q fs ws cs) where
-    pub its-frames : (state_from q).frames ≡ fs
-    its-frames = ap (λ s. s.frames) i.state
+module _ {p q : Parts} {fs : List Frame} {ws : List Wind} {cs : List Capture} (i : Stands p q fs ws cs) where
+  pub its-frames : (state_from q).frames ≡ fs
+  its-frames = ap (λ s. s.frames) i.state
 
-    pub its-winds : (state_from q).winds ≡ ws
-    its-winds = ap (λ s. s.winds) i.state
+  pub its-winds : (state_from q).winds ≡ ws
+  its-winds = ap (λ s. s.winds) i.state
 
-    pub its-held : (state_from q).held ≡ cs
-    its-held = ap (λ s. s.held) i.state
+  pub its-held : (state_from q).held ≡ cs
+  its-held = ap (λ s. s.held) i.state
 
-    -- with another list in the frame store
-    pub reframed : (xs gs : List Frame) → (state_from (with_frames q (with_current q.frames xs))).frames ≡ gs → Stands p (with_frames q (with_current q.frames xs)) gs ws cs
-    reframed xs gs e = record {
-      state = ap {A = State} {B = State} (λ s. record s { frames = (state_from (with_frames q (with_current q.frames xs))).frames }) i.state ∙ ap (λ gs. placed p gs ws cs) e;
-      limits = i.limits;
-      together = i.together;
-    }
+  -- with another list in the frame store
+  pub reframed : (xs gs : List Frame) → (state_from (with_frames q (with_current q.frames xs))).frames ≡ gs → Stands p (with_frames q (with_current q.frames xs)) gs ws cs
+  reframed xs gs e = record {
+    state = ap {A = State} {B = State} (λ s. record s { frames = (state_from (with_frames q (with_current q.frames xs))).frames }) i.state ∙ ap (λ gs. placed p gs ws cs) e;
+    limits = i.limits;
+    together = i.together;
+  }
 
-    -- with another list in the wind store
-    pub rewound : (xs vs : List Wind) → (state_from (with_winds q (with_current q.winds xs))).winds ≡ vs → Stands p (with_winds q (with_current q.winds xs)) fs vs cs
-    rewound xs vs e = record {
-      state = ap {A = State} {B = State} (λ s. record s { winds = (state_from (with_winds q (with_current q.winds xs))).winds }) i.state ∙ ap (λ vs. placed p fs vs cs) e;
-      limits = i.limits;
-      together = i.together;
-    }
+  -- with another list in the wind store
+  pub rewound : (xs vs : List Wind) → (state_from (with_winds q (with_current q.winds xs))).winds ≡ vs → Stands p (with_winds q (with_current q.winds xs)) fs vs cs
+  rewound xs vs e = record {
+    state = ap {A = State} {B = State} (λ s. record s { winds = (state_from (with_winds q (with_current q.winds xs))).winds }) i.state ∙ ap (λ vs. placed p fs vs cs) e;
+    limits = i.limits;
+    together = i.together;
+  }
