@@ -1,10 +1,10 @@
 -- The states that a run comes to: each step of a run that goes on comes to another, and the laws of the machine hold there.
-use Rattle.std.proofs.Common.{◌≡◌, ℕ, ◌+◌, ◌<◌, ◌≤◌, List, length, None, sym, refl, ap, ◌∙◌, subst, arith}
+use Rattle.std.proofs.Common.{◌≡◌, ℕ, ◌+◌, List, None, refl, subst}
 use Rattle.code.specs.declared.instruction.Instruction.{Instruction}
 use Rattle.machine.specs.Named.{find}
 use Rattle.machine.specs.State.{State, Limits, capture_name, start}
 use Rattle.machine.specs.Apply.{Event}
-use Rattle.machine.specs.Step.{went, step, most_steps}
+use Rattle.machine.specs.Step.{went, step}
 use Rattle.machine.specs.Course.{Course, course, joined}
 use Rattle.laws.specs.Counts.{Conserved, WithinSteps}
 use Rattle.laws.specs.Reached.{Within}

@@ -1,5 +1,5 @@
 -- What carrying an act out needs of an engine's parts; every state that a run comes to has it before its last step.
-use Rattle.std.proofs.Common.{◌≡◌, ℕ, ◌+◌, ◌<◌, ◌≤◌, ◌^◌, length, None}
+use Rattle.std.proofs.Common.{◌≡◌, ◌+◌, ◌<◌, ◌≤◌, ◌^◌, length, None}
 use Rattle.machine.specs.Named.{find}
 use Rattle.machine.specs.State.{Counts}
 use Rattle.held.specs.Rows.{row_name}

@@ -1,5 +1,5 @@
 -- What carrying a step out comes to, beside the machine's outcome.
-use Rattle.std.proofs.Common.{◌≡◌, ℕ, List, [], Ok, Err}
+use Rattle.std.proofs.Common.{◌≡◌, [], Ok, Err}
 use Rattle.machine.specs.declared.wind_move.WindMove.TheVariants.{Stay}
 use Rattle.machine.specs.declared.name_move.NameMove.TheVariants.{Keep as KeepNames}
 use Rattle.machine.specs.Printed.{line}

@@ -1,18 +1,16 @@
 -- Steps in a row carried out are the machine's portion.
-use Rattle.std.proofs.Common.{◌≡◌, ℕ, zero, suc, ◌+◌, ◌-◌, ◌<◌, ◌≤◌, Bool, true, false, cond, nat_lt, ltb, List, [], ◌++◌, length, drop, Some, None, Ok, Err, sym, refl, ap, ◌∙◌, subst, arith, length-append, zero-add}
-use Rattle.std.proofs.lemmas.Bool.{lt-ltb, le-ltb, cond-true, cond-false}
+use Rattle.std.proofs.Common.{◌≡◌, ℕ, zero, suc, ◌+◌, ◌-◌, ◌≤◌, true, false, nat_lt, List, length, None, Ok, Err, sym, refl, ap, ◌∙◌, subst, arith, length-append, zero-add}
+use Rattle.std.proofs.lemmas.Bool.{lt-ltb, le-ltb}
 use Rattle.code.specs.declared.instruction.Instruction.{Instruction}
-use Rattle.machine.specs.declared.reason.Reason.TheVariants.{BudgetUsed, BufferFull, Ended}
-use Rattle.machine.specs.declared.end.End.TheVariants.{Finished}
 use Rattle.machine.specs.State.{State, Limits}
 use Rattle.machine.specs.Step.{Outcome, went, finished, refused, step}
-use Rattle.machine.specs.Calls.{Portion, closing, with_step, portion_by, portion}
+use Rattle.machine.specs.Calls.{Portion, portion_by, portion}
 use Rattle.printer.specs.Written.{overwrite}
 use Rattle.printer.proofs.Overwrites.{overwrite_none, overwrite_more, length-overwrite}
 use Rattle.engine.specs.declared.turn.Turn.TheVariants.{Went, NoRoom, Finished as TurnedLast}
 use Rattle.engine.specs.Parts.{Parts, state_from, limits_from}
 use Rattle.engine.specs.Advancing.{Turned, Advanced, by_turn, turning, advancing}
-use Rattle.faithful.specs.Sound.{Together, Comes, Sound}
+use Rattle.faithful.specs.Sound.{Comes, Sound}
 use Rattle.faithful.specs.Faithful.{CarriesOut, PortionsCarriedOut}
 use Rattle.faithful.proofs.Follows.{Reach}
 use Rattle.faithful.proofs.Courses.{comes_on}

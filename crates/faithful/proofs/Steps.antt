@@ -1,5 +1,5 @@
 -- A step carried out is the machine's step.
-use Rattle.std.proofs.Common.{◌≡◌, ℕ, ◌+◌, ◌<◌, ◌≤◌, Bool, true, false, cond, nat_le, List, Some, None, Ok, Err, sym, refl, ap, ◌∙◌, subst, arith}
+use Rattle.std.proofs.Common.{◌≡◌, ℕ, ◌+◌, ◌<◌, Bool, true, false, cond, nat_le, List, Some, None, Ok, Err, refl, arith}
 use Rattle.std.proofs.lemmas.Bool.{leb-false}
 use Rattle.std.proofs.lemmas.List.{length-reverse}
 use Rattle.code.specs.declared.instruction.Instruction.{Instruction}
@@ -17,10 +17,10 @@ use Rattle.engine.specs.Acting.{carried}
 use Rattle.engine.specs.Planning.{planning}
 use Rattle.engine.specs.Advancing.{stepping}
 use Rattle.faithful.specs.Sound.{Together, Sound}
-use Rattle.faithful.proofs.Facts.{Facts, Small}
+use Rattle.faithful.proofs.Facts.{Facts}
 use Rattle.faithful.proofs.Legal.{LegalPlan}
 use Rattle.faithful.proofs.Follows.{Follows}
-use Rattle.faithful.proofs.Courses.{Lawful, lawful}
+use Rattle.faithful.proofs.Courses.{lawful}
 use Rattle.faithful.proofs.PlansNames.{Looked, unknown, known, looked}
 use Rattle.faithful.proofs.Plans.{plans_alike}
 use Rattle.faithful.proofs.PlansLegal.{plan_legal}

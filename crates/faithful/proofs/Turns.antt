@@ -1,5 +1,5 @@
 -- A step with its line, over a buffer that has room or has not.
-use Rattle.std.proofs.Common.{◌≡◌, ℕ, ◌+◌, ◌<◌, ◌≤◌, Bool, true, false, cond, nat_le, List, [], length, Some, None, Ok, Err, sym, refl, ap, ◌∙◌, subst, arith, add-zero}
+use Rattle.std.proofs.Common.{◌≡◌, ℕ, ◌+◌, ◌<◌, ◌≤◌, Bool, true, false, cond, nat_le, List, length, Some, None, Ok, Err, sym, refl, add-zero}
 use Rattle.std.proofs.lemmas.Bool.{leb-true, leb-false}
 use Rattle.machine.specs.declared.mode.Mode.{Mode}
 use Rattle.machine.specs.declared.wind_move.WindMove.TheVariants.{Stay}
