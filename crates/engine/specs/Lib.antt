@@ -2,3 +2,4 @@ pub mod Parts
 pub mod Acting
 pub mod Planning
 pub mod Advancing
+pub mod Waiting
