@@ -3,3 +3,4 @@ pub mod Acting
 pub mod Planning
 pub mod Advancing
 pub mod Waiting
+pub mod Tallies

@@ -12,6 +12,7 @@ use store::store::Store;
 use store::typed::Typed;
 
 mod acts;
+mod advancing;
 mod arithmetic;
 mod calling;
 mod captures;
@@ -21,6 +22,7 @@ mod opening;
 mod parts;
 mod returning;
 mod step;
+mod telling;
 mod throwing;
 
 /// How many registers an engine has.
