@@ -12,9 +12,18 @@ use store::store::Store;
 use store::typed::Typed;
 
 mod acts;
+mod advancing;
+mod arithmetic;
+mod calling;
 mod captures;
+mod executing;
 mod names;
+mod opening;
 mod parts;
+mod returning;
+mod step;
+mod telling;
+mod throwing;
 
 /// How many registers an engine has.
 pub const REGISTERS: usize = code::register::REGISTERS as usize;

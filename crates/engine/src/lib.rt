@@ -4,6 +4,7 @@
 //! It rests on `cell`, `store`, `held`, `printer` and `code`, on the definitions of `machine`, and on one of `laws`.
 #![tactic(auto)]
 
+mod checks;
 pub mod counters;
 pub mod engine;
 pub mod step;
