@@ -1,3 +1,4 @@
 pub mod Chains
 pub mod Named
 pub mod Advances
+pub mod Cells

@@ -16,6 +16,7 @@ mod advancing;
 mod arithmetic;
 mod calling;
 mod captures;
+mod cells;
 mod executing;
 mod names;
 mod opening;
@@ -47,9 +48,14 @@ pub struct Engine<F: Store, W: Store> {
 }
 
 impl<F: Store, W: Store> Model for Engine<F, W> {
+    ghost use Rattle.cell.specs.Elements.{frame_in, frame_words, wind_in, wind_words};
+    ghost use Rattle.store.specs.Typed.{Written};
     ghost use Rattle.engine.specs.Parts.{Parts, counts_of};
 
     ghost Value = { Parts };
 
     ghost view = { λ e. record { registers = e.registers; globals = e.globals; frames = e.frames.list; winds = e.winds.list; rows = e.held; mode = e.mode; tried = e.tried; counts = counts_of e.counts } };
+
+    // Each cell is the one that its frame or wind is written as, so that what is told of a cell can be said of those.
+    ghost invariant = { λ e. Written frame_in frame_words (F.meaning e.frames.store) × Written wind_in wind_words (W.meaning e.winds.store) };
 }

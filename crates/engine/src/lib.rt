@@ -1,6 +1,6 @@
-//! The acts of a step carried out on two stores and on a run's own words. What is said here of each is said over the parts of
-//! an engine as they are (`specs/Parts.antt`): what its stores mean, the rows of its held names, its words. The step itself, and
-//! steps in a row with their lines, are defined in `specs/` and not written yet; that all this is the machine's step is not proved.
+//! A machine's state with its frames and winds in two stores, and its steps carried out there: one, and many in a row with their
+//! lines. What is said here of each is said over the parts of an engine as they are (`specs/Parts.antt`): what its stores mean,
+//! the rows of its held names, its own words. That these are the machine's steps is another crate's theorem.
 //! It rests on `cell`, `store`, `held`, `printer` and `code`, on the definitions of `machine`, and on one of `laws`.
 #![tactic(auto)]
 
