@@ -1,0 +1,4 @@
+pub mod Stub
+pub mod Starts
+pub mod Opened
+pub mod Portions
