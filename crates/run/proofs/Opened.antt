@@ -1,5 +1,5 @@
 -- What is known of a run whose engine is open.
-use Rattle.std.proofs.Common.{◌≡◌, List, Option, sym, ap, ◌∙◌, subst}
+use Rattle.std.proofs.Common.{◌≡◌, List, Option, None, sym, ap, ◌∙◌, subst}
 use Rattle.cell.specs.declared.cell.Cell.{Cell}
 use Rattle.store.specs.Meaning.{Meaning}
 use Rattle.code.specs.declared.instruction.Instruction.{Instruction}
@@ -17,3 +17,11 @@ module _ {F W S T : Type 0} (f : F → Meaning Cell) (w : W → Meaning Cell) (c
 
   pub open_kept : Stands code stage → Kept code p end
   open_kept stands = subst (Stands code) is stands
+
+  -- and has not ended
+  module _ (none : end ≡ None) where
+    pub live_is : (r : Run) → run_at f w code stage ≡ r → run_of code p None ≡ r
+    live_is r view = sym (ap (run_of code p) none) ∙ open_is r view
+
+    pub live_kept : Stands code stage → Kept code p None
+    live_kept stands = subst (Kept code p) none (open_kept stands)

@@ -42,8 +42,8 @@ module _ (code : List Instruction) (numbers : List ℤ) (f w : Meaning Cell) (fi
       record { together = together; sound = λ _. record { comes = (numbers, 0, sym start_is, refl); together = together } }
 
 -- an engine that was opened stands at the start
-pub opened_kept : {Z : Type 0} (code : List Instruction) (numbers : List ℤ) (f w : Meaning Cell) (e : Parts) (z : Z)
-    → ◌≡◌ {A = Result Parts Z} (cond (both_fit (offer_of f) (offer_of w)) (Ok (starting numbers (read_as frame_in f) (read_as wind_in w))) (Err z)) (Ok e) → Kept code e None
-opened_kept code numbers f w e z h =
-    let t = by_test (both_fit (offer_of f) (offer_of w)) (starting numbers (read_as frame_in f) (read_as wind_in w)) e z h in
+pub opened_kept : {Z : Type 0} (code : List Instruction) (numbers : List ℤ) (f w : Meaning Cell) (e : Parts) (z : Z) (r : Result Parts Z)
+    → r ≡ cond (both_fit (offer_of f) (offer_of w)) (Ok (starting numbers (read_as frame_in f) (read_as wind_in w))) (Err z) → r ≡ Ok e → Kept code e None
+opened_kept code numbers f w e z r given is =
+    let t = by_test (both_fit (offer_of f) (offer_of w)) (starting numbers (read_as frame_in f) (read_as wind_in w)) e z (sym given ∙ is) in
     subst (λ p. Kept code p None) t.1 (new_kept code numbers f w t.0)
