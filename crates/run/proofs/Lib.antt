@@ -2,3 +2,5 @@ pub mod Stub
 pub mod Starts
 pub mod Opened
 pub mod Portions
+pub mod Serving
+pub mod Answered
