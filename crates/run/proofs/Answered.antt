@@ -36,11 +36,3 @@ served_as r (e ∷ es) =
     let rest = served_as (exchanged r e).1 es in
     ap (λ x. (with_first x (answers_in (serving (exchanged r e).1 es).0), (serving (exchanged r e).1 es).1)) (answered_as r e)
     ∙ ap (answer_first (answered r (asked e)).0) (rest ∙ ap (λ q. served q (map asked es)) (left_as r e))
-
-pub two_agree : (code : List Instruction) (numbers : List ℤ) (f w f' w' : Offer) (es ds : List Exchange) (x y : List Exchange × Run)
-    → x ≡ serving (opened code numbers f w) es → y ≡ serving (opened code numbers f' w') ds
-    → AgreeThroughout code numbers (transcript_of f w es x.0 x.1) (transcript_of f' w' ds y.0 y.1)
-two_agree code numbers f w f' w' es ds x y h i =
-    two_runs_agree_throughout code numbers f w f' w' (map asked es) (map asked ds) (answers_in x.0, x.1) (answers_in y.0, y.1)
-    (ap (λ z. (answers_in z.0, z.1)) h ∙ served_as (opened code numbers f w) es)
-    (ap (λ z. (answers_in z.0, z.1)) i ∙ served_as (opened code numbers f' w') ds)

@@ -33,7 +33,7 @@ accepted_as : (code : List Instruction) (p : Parts) (buffer : List ℕ) (q : Por
 accepted_as code p buffer q a h =
     cc (told a.0.progress q.steps (length q.bytes) q.reason h.steps h.bytes h.reason, h.end, h.buffer_after, h.state, h.limits)
 
-accepted_is : (r : Run) (budget : ℕ) (buffer : List ℕ) → r.end ≡ None → admitted budget (length buffer) ≡ Ok tt
+accepted_is : (r : Run) (budget : ℕ) (buffer : List ℕ) → r.end ≡ None → Ok tt ≡ admitted budget (length buffer)
     → ran r budget buffer ≡ accepted (portion r.limits r.code budget (length buffer) r.state) r buffer
 accepted_is r budget buffer e f = grind (arith, e, f)
 
@@ -43,7 +43,7 @@ module _ (code : List Instruction) (p : Parts) (budget : ℕ) (buffer : List ℕ
   carried_out = subst (CarriesOut code p buffer (portion (limits_from p) code budget (length buffer) (state_from p))) (sym is)
       (portions_carried_out code p budget buffer (kept.sound refl))
 
-  pub ran_as : admitted budget (length buffer) ≡ Ok tt → ◌≡◌ {A = Ran} (Ok a.0.progress, a.1, run_of code a.2 a.0.end) (ran (run_of code p None) budget buffer)
+  pub ran_as : Ok tt ≡ admitted budget (length buffer) → ◌≡◌ {A = Ran} (Ok a.0.progress, a.1, run_of code a.2 a.0.end) (ran (run_of code p None) budget buffer)
   ran_as e = accepted_as code p buffer _ a carried_out ∙ sym (accepted_is (run_of code p None) budget buffer refl e)
 
   pub kept_on : Kept code a.2 a.0.end

@@ -2,6 +2,7 @@
 //! It rests on `engine`, which makes the steps, on `faithful`, that those are the machine's, and on `laws`, for what two runs have in common.
 #![tactic(auto)]
 
+pub mod admission;
 pub mod exchange;
 pub mod run;
 pub mod serve;

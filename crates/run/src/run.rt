@@ -3,9 +3,9 @@ ghost use Rattle.std.specs.Prelude.{◌≡◌, [], Some};
 ghost use Rattle.machine.specs.Opening.{opened, offer_of};
 ghost use Rattle.machine.specs.declared.end.End.TheVariants.{UnfitStores};
 ghost use Rattle.machine.specs.State.{start};
-ghost use Rattle.machine.specs.Calls.{ran, tallied, looked, forced};
-ghost use Rattle.run.specs.Admission.{admitted};
+ghost use Rattle.machine.specs.Calls.{ran, tallied, cell_at as cell_told, looked, forced};
 
+use crate::admission::admit;
 use cell::address::Address;
 use cell::cell::Cell;
 use code::code::Code;
@@ -18,12 +18,6 @@ use machine::tally::{Ending, NameTally, Tally, WindTally};
 use std::marker::Model;
 use store::store::Store;
 
-/// The largest budget of a run call.
-pub const MOST_BUDGET: u32 = 1_000_000;
-
-/// The least buffer of a run call: the longest line has so many bytes.
-pub const LEAST_BUFFER: usize = 12;
-
 /// What a run has come to.
 #[derive(Drop)]
 enum Stage<F: Store, W: Store> {
@@ -33,7 +27,7 @@ enum Stage<F: Store, W: Store> {
     Open(Engine<F, W>, Option<End>),
 }
 
-/// A run of a code on two stores. Contracts see the machine's run that it is.
+/// A run of a code on two stores. Contracts see the machine's run that it is, whatever the stores are.
 #[derive(Drop)]
 pub struct Run<'a, F: Store, W: Store> {
     code: &'a Code,
@@ -50,19 +44,6 @@ impl<'a, F: Store, W: Store> Model for Run<'a, F, W> {
     ghost view = { λ r. run_at F.meaning W.meaning r.code.now r.stage };
 
     ghost invariant = { λ r. Stands r.code.now r.stage };
-}
-
-/// Whether a run call with this budget, and a buffer of this size, is accepted.
-fn admit(budget: u32, size: usize) -> Result<(), RunRefusal>
-    ensures { result ≡ admitted budget size }
-{
-    if budget < 1 || budget > MOST_BUDGET {
-        return Err(RunRefusal::BudgetOutOfRange);
-    }
-    if size < LEAST_BUFFER {
-        return Err(RunRefusal::BufferTooShort);
-    }
-    Ok(())
 }
 
 /// The tally of a run that ended as it was opened.
@@ -86,6 +67,16 @@ fn unfit_tally() -> Tally
             end: End::UnfitStores,
             address: Address(0),
         }),
+    }
+}
+
+/// The cell at an index of a store.
+fn cell_at<S: Store>(store: &S, index: u32) -> Result<Cell, IndexRefusal>
+    ensures { result ≡ cell_told (S.meaning store.now).current index }
+{
+    match store.cell_at(index) {
+        Ok(cell) => Ok(cell),
+        Err(_) => Err(IndexRefusal::Beyond),
     }
 }
 
@@ -133,9 +124,7 @@ impl<'a, F: Store, W: Store> Run<'a, F, W> {
     {
         match &self.stage {
             Stage::Open(engine, _) => engine.frame_cell(index),
-            Stage::Unfit(frames, _) => frames
-                .cell_at(index)
-                .map_err(|_| IndexRefusal::Beyond),
+            Stage::Unfit(frames, _) => cell_at(frames, index),
         }
     }
 
@@ -145,9 +134,7 @@ impl<'a, F: Store, W: Store> Run<'a, F, W> {
     {
         match &self.stage {
             Stage::Open(engine, _) => engine.wind_cell(index),
-            Stage::Unfit(_, winds) => winds
-                .cell_at(index)
-                .map_err(|_| IndexRefusal::Beyond),
+            Stage::Unfit(_, winds) => cell_at(winds, index),
         }
     }
 }

@@ -1,6 +1,7 @@
 //! Lists of exchanges carried out on a run.
-ghost use Rattle.std.specs.Prelude.{◌≡◌};
-ghost use Rattle.run.specs.Serving.{exchanged, serving};
+ghost use Rattle.std.specs.Prelude.{◌≡◌, map};
+ghost use Rattle.machine.specs.Calls.{served};
+ghost use Rattle.run.specs.Serving.{asked, answers_in, exchanged, serving};
 
 use crate::exchange::Exchange;
 use crate::run::Run;
@@ -22,9 +23,11 @@ fn serve_one<F: Store, W: Store>(run: &mut Run<'_, F, W>, exchange: &mut Exchang
     }
 }
 
-/// Carries out each, in their order, and puts its answer in its place.
+/// Carries out each, in their order, and puts its answer in its place. The answers are those that the machine's definition has to
+/// the calls that were asked.
 pub fn serve<F: Store, W: Store>(run: &mut Run<'_, F, W>, exchanges: &mut [Exchange])
-    ensures { (exchanges.new, run.new) ≡ serving run.old exchanges.old }
+    ensures whole { (exchanges.new, run.new) ≡ serving run.old exchanges.old }
+    ensures answers { (answers_in exchanges.new, run.new) ≡ served run.old (map asked exchanges.old) }
 {
     for exchange in exchanges.iter_mut() {
         serve_one(run, exchange);

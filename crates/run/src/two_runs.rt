@@ -1,8 +1,9 @@
 //! Two runs of one code.
-ghost use Rattle.std.specs.Prelude.{◌≡◌};
+ghost use Rattle.std.specs.Prelude.{◌≡◌, map};
 ghost use Rattle.machine.specs.Opening.{opened, offer_of};
+ghost use Rattle.machine.specs.Calls.{served};
 ghost use Rattle.laws.specs.TwoRuns.{AgreeThroughout};
-ghost use Rattle.run.specs.Serving.{serving};
+ghost use Rattle.run.specs.Serving.{asked, answers_in, serving};
 ghost use Rattle.run.specs.Transcripts.{transcript_of};
 
 use crate::exchange::Exchange;
@@ -19,7 +20,8 @@ fn open_and_serve<'a, F: Store, W: Store>(
     stores: (F, W),
     exchanges: &mut [Exchange],
 ) -> Run<'a, F, W>
-    ensures { (exchanges.new, result) ≡ serving (opened code.now numbers (offer_of (F.meaning stores.0)) (offer_of (W.meaning stores.1))) exchanges.old }
+    ensures whole { (exchanges.new, result) ≡ serving (opened code.now numbers (offer_of (F.meaning stores.0)) (offer_of (W.meaning stores.1))) exchanges.old }
+    ensures answers { (answers_in exchanges.new, result) ≡ served (opened code.now numbers (offer_of (F.meaning stores.0)) (offer_of (W.meaning stores.1))) (map asked exchanges.old) }
 {
     let (frames, winds) = stores;
     let mut run = Run::open(code, numbers, frames, winds);

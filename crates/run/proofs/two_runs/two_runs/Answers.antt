@@ -1,5 +1,7 @@
+use Rattle.std.proofs.Common.{map}
 use Rattle.machine.specs.Opening.{offer_of}
-use Rattle.run.proofs.Answered.{two_agree}
+use Rattle.laws.proofs.TwoRuns.{two_runs_agree_throughout}
+use Rattle.run.specs.Serving.{asked}
 use Rattle.run.proofs.two_runs.two_runs.Goals as goal
 
 pub returns : goal.returns
@@ -11,7 +13,7 @@ returns g c =
     let frames' = offer_of (g.G.Store.meaning c.args.second.0) in
     let winds' = offer_of (g.V.Store.meaning c.args.second.1) in
     record {
-      first = one;
-      second = other;
-      agree = two_agree c.args.code.now c.args.numbers frames winds frames' winds' c.args.calls.now c.args.others.now _ _ one other;
+      first = one.whole;
+      second = other.whole;
+      agree = two_runs_agree_throughout c.args.code.now c.args.numbers frames winds frames' winds' (map asked c.args.calls.now) (map asked c.args.others.now) _ _ one.answers other.answers;
     }
