@@ -1,4 +1,3 @@
-pub mod Stub
 pub mod Starts
 pub mod Opened
 pub mod Portions

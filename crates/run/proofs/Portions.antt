@@ -1,5 +1,5 @@
 -- The calls on an engine are those on the run that it stands for.
-use Rattle.std.proofs.Common.{suc, arith, ◌≡◌, ℕ, Bool, true, false, cond, List, [], ◌∷◌, length, map, reverse, ℤ, None, Option, Ok, Err, Result, refl, sym, ap, ◌∙◌, subst}
+use Rattle.std.proofs.Common.{suc, arith, ◌≡◌, ℕ, List, [], ◌∷◌, length, None, Option, Ok, refl, sym, ap, ◌∙◌, subst}
 use Rattle.std.proofs.lemmas.List.{length-reverse}
 use Rattle.code.specs.declared.instruction.Instruction.{Instruction}
 use Rattle.machine.specs.declared.end.End.{End}
@@ -7,7 +7,8 @@ use Rattle.machine.specs.declared.progress.Progress.{Progress}
 use Rattle.machine.specs.declared.reason.Reason.{Reason}
 use Rattle.machine.specs.Opening.{Run}
 use Rattle.machine.specs.Calls.{Portion, portion, Ran, ran, accepted, tallied}
-use Rattle.engine.specs.Parts.{Parts, captured, tally_of, state_from, limits_from}
+use Rattle.engine.specs.Parts.{Parts, captured, state_from, limits_from}
+use Rattle.engine.specs.Tallies.{tally_of}
 use Rattle.engine.specs.Advancing.{Advanced, advancing}
 use Rattle.laws.specs.Rows.{joined, Matched}
 use Rattle.held.specs.declared.held_row.HeldRow.{HeldRow}
@@ -16,8 +17,8 @@ use Rattle.cell.specs.declared.frame.Frame.{Frame}
 use Rattle.cell.specs.declared.wind.Wind.{Wind}
 use Rattle.store.specs.Meaning.{Held}
 use Rattle.faithful.specs.Faithful.{CarriesOut}
-use Rattle.faithful.specs.Sound.{pair_name, Together, Sound}
-use Rattle.run.proofs.Stub.{portions_carried_out}
+use Rattle.faithful.specs.Sound.{pair_name, Together}
+use Rattle.faithful.proofs.Portions.{portions_carried_out}
 use Rattle.run.specs.Admission.{admitted}
 use Rattle.run.specs.Stages.{run_of, Kept}
 

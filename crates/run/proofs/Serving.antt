@@ -1,5 +1,5 @@
 -- Lists of exchanges carried out one by one.
-use Rattle.std.proofs.Common.{◌≡◌, ℕ, zero, suc, ◌+◌, ◌<◌, ◌≤◌, List, [], ◌∷◌, length, get_or, set, arith, refl, ap, sym, ◌∙◌}
+use Rattle.std.proofs.Common.{◌≡◌, ℕ, zero, suc, ◌<◌, ◌≤◌, List, [], ◌∷◌, length, get_or, set, arith, refl, sym, ap, ◌∙◌}
 use Rattle.machine.specs.Opening.{Run}
 use Rattle.run.specs.declared.exchange.Exchange.{Exchange}
 use Rattle.run.specs.Serving.{exchanged, exchange_first, serving}
@@ -18,8 +18,12 @@ resumed_next zero (e ∷ es) d r x h is = ap (λ y. exchange_first y.0 (serving 
 resumed_next (suc i) (e ∷ es) d r x h is = ap (exchange_first e) (resumed_next i es d r x (omega (arith, h)) is)
 
 -- when all were
-pub resumed_all : (i : ℕ) (es : List Exchange) (r : Run) → length es ≤ i → resumed i r es ≡ (es, r)
+resumed_all : (i : ℕ) (es : List Exchange) (r : Run) → length es ≤ i → resumed i r es ≡ (es, r)
 resumed_all zero [] r h = refl
 resumed_all zero (e ∷ es) r h = absurd (omega (arith, h))
 resumed_all (suc i) [] r h = refl
 resumed_all (suc i) (e ∷ es) r h = ap (exchange_first e) (resumed_all i es r (omega (arith, h)))
+
+-- so nothing is left to come
+pub all_served : (i : ℕ) (es : List Exchange) (r : Run) (x : List Exchange × Run) → length es ≤ i → resumed i r es ≡ x → (es, r) ≡ x
+all_served i es r x h is = sym (resumed_all i es r h) ∙ is

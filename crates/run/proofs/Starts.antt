@@ -1,15 +1,15 @@
 -- An engine on two fit stores stands at the start.
-use Rattle.std.proofs.Common.{arith, ◌≡◌, ℕ, Bool, true, false, cond, List, [], ◌∷◌, length, map, reverse, ℤ, None, Option, Ok, Err, Result, refl, sym, ap, ◌∙◌, subst}
+use Rattle.std.proofs.Common.{arith, ◌≡◌, Bool, true, false, cond, List, [], ℤ, None, Ok, Err, Result, refl, sym, ◌∙◌, subst}
 use Rattle.std.proofs.lemmas.List.{nil_from_length}
 use Rattle.cell.specs.declared.cell.Cell.{Cell}
 use Rattle.cell.specs.Elements.{frame_in, wind_in}
-use Rattle.store.specs.Meaning.{Meaning, Held}
+use Rattle.store.specs.Meaning.{Meaning}
 use Rattle.store.specs.Typed.{read_as}
 use Rattle.code.specs.declared.instruction.Instruction.{Instruction}
 use Rattle.machine.specs.State.{start}
-use Rattle.machine.specs.Opening.{Offer, offer_of, both_fit}
-use Rattle.engine.specs.Parts.{Parts, starting, state_from, limits_from}
-use Rattle.faithful.specs.Sound.{Together, Comes, Sound}
+use Rattle.machine.specs.Opening.{offer_of, both_fit}
+use Rattle.engine.specs.Parts.{Parts, starting, state_from}
+use Rattle.faithful.specs.Sound.{Together}
 use Rattle.run.specs.Stages.{Kept}
 
 -- which of two answers it was

@@ -1,9 +1,7 @@
-use Rattle.std.proofs.Common.{◌≡◌, List, sym, ◌∙◌, ap, arith, add-one}
-use Rattle.machine.specs.Opening.{Run}
-use Rattle.run.specs.declared.exchange.Exchange.{Exchange}
-use Rattle.run.specs.Serving.{answers_in, serving}
-use Rattle.run.proofs.Serving.{resumed_next, resumed_all}
-use Rattle.run.proofs.Answered.{served_as}
+use Rattle.std.proofs.Common.{◌∙◌, arith, add-one}
+use Rattle.run.specs.Serving.{serving}
+use Rattle.run.proofs.Serving.{resumed_next, all_served}
+use Rattle.run.proofs.Answered.{answers_as}
 use Rattle.run.proofs.serve.serve.Goals as goal
 
 pub loop-exchange-preserved : goal.loop-exchange-preserved
@@ -14,6 +12,5 @@ loop-exchange-preserved g c =
 
 pub returns : goal.returns
 returns g c =
-    let whole : ◌≡◌ {A = List Exchange × Run} (c.loop-exchange.exchanges, c.loop-exchange.run) (serving c.args.run.now c.args.exchanges.now) =
-    sym (resumed_all c.loop-exchange.exchange-index c.loop-exchange.exchanges c.loop-exchange.run (omega arith)) ∙ c.loop-exchange.invariant in
-    record { whole = whole; answers = ap (λ x. (answers_in x.0, x.1)) whole ∙ served_as c.args.run.now c.args.exchanges.now }
+    let whole = all_served c.loop-exchange.exchange-index c.loop-exchange.exchanges c.loop-exchange.run (serving c.args.run.now c.args.exchanges.now) (omega arith) c.loop-exchange.invariant in
+    record { whole = whole; answers = answers_as c.args.run.now c.args.exchanges.now (c.loop-exchange.exchanges, c.loop-exchange.run) whole }

@@ -1,7 +1,7 @@
 use Rattle.std.proofs.Common.{map}
 use Rattle.machine.specs.Opening.{offer_of}
 use Rattle.laws.proofs.TwoRuns.{two_runs_agree_throughout}
-use Rattle.run.specs.Serving.{asked}
+use Rattle.run.specs.Serving.{asked, answers_in}
 use Rattle.run.proofs.two_runs.two_runs.Goals as goal
 
 pub returns : goal.returns
@@ -15,5 +15,5 @@ returns g c =
     record {
       first = one.whole;
       second = other.whole;
-      agree = two_runs_agree_throughout c.args.code.now c.args.numbers frames winds frames' winds' (map asked c.args.calls.now) (map asked c.args.others.now) _ _ one.answers other.answers;
+      agree = two_runs_agree_throughout c.args.code.now c.args.numbers frames winds frames' winds' (map asked c.args.calls.now) (map asked c.args.others.now) (answers_in c.open_and_serve.new.exchanges, c.open_and_serve.result) (answers_in c.open_and_serve-2.new.exchanges, c.open_and_serve-2.result) one.answers other.answers;
     }
