@@ -1,0 +1,30 @@
+//! What is asked of a run.
+
+use run::exchange::Exchange;
+use std::alloc::{AllocError, Global};
+
+/// A run is given up after so many calls, each of them with so many steps.
+const CALLS: usize = 100;
+
+const BUDGET: u32 = 1000;
+
+/// The longest line has 12 bytes, so no call stops for its buffer.
+const BUFFER: usize = 12000;
+
+fn run_call(alloc: Global) -> Result<Exchange, AllocError> {
+    Ok(Exchange::Run {
+        budget: BUDGET,
+        buffer: vec![in alloc; 0u8; BUFFER]?,
+        answer: None,
+    })
+}
+
+/// The calls that make steps, and then a tally.
+pub fn calls(alloc: Global) -> Result<Vec<Exchange>, AllocError> {
+    let mut calls = Vec::with_capacity(alloc, CALLS + 1)?;
+    for _ in 0..CALLS {
+        calls.push(run_call(alloc)?)?;
+    }
+    calls.push(Exchange::Tally { answer: None })?;
+    Ok(calls)
+}
