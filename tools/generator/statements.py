@@ -34,7 +34,10 @@ def leave(s):
     """The end of a procedure, with a number to answer nearly always."""
     if not s.odds(1, 40):
         s.put(f"set r0 {s.number()}")
-    s.put("ret")
+    if s.odds(1, 12) and not s.is_full():
+        s.put(f"proc r1 {s.procedure('sub', lambda: leave(s))}", "tail r1")
+    else:
+        s.put("ret")
 
 
 def call(s):
@@ -81,14 +84,14 @@ def forget(s):
 
 
 def side(s):
-    """A before or an after: it prints, and now and then captures or throws."""
+    """A before or an after: it prints, and now and then captures, throws, forgets or stops."""
     if s.odds(3, 4):
         s.put(f"set r2 {s.chance.randrange(100)}", "print r2")
-    if s.odds(1, 5) and not s.is_full():
-        s.pick(throw, throw, capture)(s)
+    if s.odds(1, 4) and not s.is_full():
+        s.pick(throw, throw, throw, capture, capture, forget)(s)
     if s.odds(1, 4):
         s.put(f"set r0 {s.chance.randrange(10)}")
-    s.put("ret")
+    s.put("stop" if s.odds(1, 50) else "ret")
 
 
 def wind(s):
@@ -137,7 +140,7 @@ def deep(s):
         bottom = s.label("deep")
         s.put(f"zero r4 {bottom}", "sub r4 r4 r5", *["push r4"] * pushes, f"proc r1 {s.here()}", "call r1")
         s.put(*["pop r3"] * pushes, "ret", f":{bottom}")
-        if s.odds(1, 3):
+        if s.odds(1, 2):
             throw(s)
         leave(s)
 
