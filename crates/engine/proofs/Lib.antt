@@ -1,4 +1,2 @@
 pub mod Chains
-pub mod Named
-pub mod Advances
 pub mod Cells

@@ -5,6 +5,7 @@ use cell::address::Address;
 use cell::frame::Frame;
 use cell::value::Value;
 use cell::wind::Wind;
+use code::register::Register;
 use held::held_table::HeldTable;
 use machine::mode::Mode;
 use std::marker::Model;
@@ -12,25 +13,22 @@ use store::store::Store;
 use store::typed::Typed;
 
 mod acts;
-mod advancing;
-mod arithmetic;
-mod calling;
 mod captures;
 pub mod cells;
-mod executing;
+mod looking;
 mod names;
 mod opening;
 mod parts;
-mod returning;
-mod step;
 mod telling;
-mod throwing;
 
 /// How many registers an engine has.
 pub const REGISTERS: usize = code::register::REGISTERS as usize;
 
 /// How many globals.
 pub const GLOBALS: usize = code::global::GLOBALS as usize;
+
+/// The register that values are passed in.
+pub const ZEROTH: Register = Register(0);
 
 // The bounds stand on the struct, since its model reads what the two lists mean.
 /// A machine's state, its frames and its winds in force in two stores.

@@ -35,7 +35,7 @@ use Rattle.held.specs.declared.held_row.HeldRow.{HeldRow}
 use Rattle.held.specs.Winds.{common_by}
 use Rattle.engine.specs.Parts.{Parts, state_from}
 use Rattle.engine.specs.Acting.{fresh}
-use Rattle.engine.specs.Planning.{row_under, saved_value, wind_on_top, executing, fetching, reentering, resuming, returning, sharing, unwinding, throwing, planning, planning_in}
+use Rattle.steps.specs.Planning.{row_under, saved_value, wind_on_top, executing, fetching, reentering, resuming, returning, sharing, unwinding, throwing, planning, planning_in}
 use Rattle.faithful.proofs.Facts.{Facts}
 use Rattle.faithful.proofs.PlansNames.{Looked, unknown, known, looked, row_of, capture_of}
 use Rattle.faithful.proofs.PlansTops.{head, top_is, turned_twice}

@@ -7,9 +7,9 @@ use Rattle.machine.specs.Step.{Outcome, went, finished, refused, step}
 use Rattle.machine.specs.Calls.{Portion, portion_by, portion}
 use Rattle.printer.specs.Written.{overwrite}
 use Rattle.printer.proofs.Overwrites.{overwrite_none, overwrite_more, length-overwrite}
-use Rattle.engine.specs.declared.turn.Turn.TheVariants.{Went, NoRoom, Finished as TurnedLast}
+use Rattle.steps.specs.declared.turn.Turn.TheVariants.{Went, NoRoom, Finished as TurnedLast}
 use Rattle.engine.specs.Parts.{Parts, state_from, limits_from}
-use Rattle.engine.specs.Advancing.{Turned, Advanced, by_turn, turning, advancing}
+use Rattle.steps.specs.Advancing.{Turned, Advanced, by_turn, turning, advancing}
 use Rattle.faithful.specs.Sound.{Comes, Sound}
 use Rattle.faithful.specs.Faithful.{CarriesOut, PortionsCarriedOut}
 use Rattle.faithful.proofs.Follows.{Reach}

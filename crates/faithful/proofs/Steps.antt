@@ -14,8 +14,8 @@ use Rattle.machine.specs.Step.{refused, settle, step, most_steps}
 use Rattle.held.specs.Rows.{row_name}
 use Rattle.engine.specs.Parts.{Parts, state_from, limits_from}
 use Rattle.engine.specs.Acting.{carried}
-use Rattle.engine.specs.Planning.{planning}
-use Rattle.engine.specs.Advancing.{stepping}
+use Rattle.steps.specs.Planning.{planning}
+use Rattle.steps.specs.Advancing.{stepping}
 use Rattle.faithful.specs.Sound.{Together, Sound}
 use Rattle.faithful.proofs.Facts.{Facts}
 use Rattle.faithful.proofs.Legal.{LegalPlan}

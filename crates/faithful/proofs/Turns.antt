@@ -11,10 +11,10 @@ use Rattle.machine.specs.Step.{Outcome, went, finished, refused}
 use Rattle.printer.specs.Written.{overwrite, written}
 use Rattle.printer.proofs.Overwrites.{overwrite_none}
 use Rattle.engine.specs.declared.step.Step.TheVariants.{Made, Line, Finished}
-use Rattle.engine.specs.declared.turn.Turn.TheVariants.{Went, NoRoom, Finished as TurnedLast}
+use Rattle.steps.specs.declared.turn.Turn.TheVariants.{Went, NoRoom, Finished as TurnedLast}
 use Rattle.engine.specs.Parts.{Parts, state_from, turned}
 use Rattle.engine.specs.Acting.{Carried}
-use Rattle.engine.specs.Advancing.{Turned, after_line, printing}
+use Rattle.steps.specs.Advancing.{Turned, after_line, printing}
 use Rattle.engine.specs.declared.step.Step.{Step}
 use Rattle.faithful.proofs.Follows.{Reach, Follows}
 

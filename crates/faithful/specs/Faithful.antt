@@ -3,7 +3,7 @@ use Rattle.std.specs.Prelude.{◌≡◌, ℕ, List, ◌++◌, length, drop, None
 use Rattle.code.specs.declared.instruction.Instruction.{Instruction}
 use Rattle.machine.specs.Calls.{Portion, portion}
 use Rattle.engine.specs.Parts.{Parts, state_from, limits_from}
-use Rattle.engine.specs.Advancing.{Advanced, advancing}
+use Rattle.steps.specs.Advancing.{Advanced, advancing}
 use Rattle.faithful.specs.Sound.{Together, Sound}
 
 -- what was carried out, from parts p and over a buffer, is what a portion tells

@@ -9,7 +9,7 @@ use Rattle.machine.specs.Opening.{Run}
 use Rattle.machine.specs.Calls.{Portion, portion, Ran, ran, accepted, tallied}
 use Rattle.engine.specs.Parts.{Parts, captured, state_from, limits_from}
 use Rattle.engine.specs.Tallies.{tally_of}
-use Rattle.engine.specs.Advancing.{Advanced, advancing}
+use Rattle.steps.specs.Advancing.{Advanced, advancing}
 use Rattle.laws.specs.Rows.{joined, Matched}
 use Rattle.held.specs.declared.held_row.HeldRow.{HeldRow}
 use Rattle.held.specs.Rows.{row_name}

@@ -5,7 +5,6 @@ use Rattle.std.specs.Option.{ok_or}
 use Rattle.cell.specs.declared.address.Address.{Address}
 use Rattle.cell.specs.declared.name.Name.{Name}
 use Rattle.cell.specs.declared.value.Value.{Value}
-use Rattle.cell.specs.declared.value.Value.TheVariants.{Continuation}
 use Rattle.cell.specs.declared.frame.Frame.{Frame}
 use Rattle.cell.specs.declared.frame.Frame.TheVariants.{Saved, Back, Mark, In, Out, Hold, Toss, Enter}
 use Rattle.cell.specs.declared.wind.Wind.{Wind}
@@ -16,7 +15,6 @@ use Rattle.code.specs.declared.instruction.Instruction.{Instruction}
 use Rattle.code.specs.declared.instruction.Instruction.TheVariants.{Set, Proc, Load, Store as StoreTo, Add, Sub, Less, Jump, Zero, Push as PushFrom, Pop as PopTo, Print, Call, Tail, CallCc, CallOnce, Forget as ForgetIn, DynamicWind, Return, Stop}
 use Rattle.machine.specs.declared.end.End.TheVariants.{WrongFrame, NotHeld, OffTheEnd}
 use Rattle.machine.specs.declared.write.Write.TheVariants.{Register as ToRegister}
-use Rattle.machine.specs.declared.frame_move.FrameMove.{FrameMove}
 use Rattle.machine.specs.declared.frame_move.FrameMove.TheVariants.{Push, PushBoth, Pop, Replace, Restore}
 use Rattle.machine.specs.declared.wind_move.WindMove.{WindMove}
 use Rattle.machine.specs.declared.wind_move.WindMove.TheVariants.{Stay, Open, Reenter, Leave}
@@ -33,7 +31,7 @@ use Rattle.held.specs.declared.held_row.HeldRow.{HeldRow}
 use Rattle.held.specs.Rows.{row_name}
 use Rattle.held.specs.Winds.{common_with}
 use Rattle.engine.specs.Parts.{Parts, state_from}
-use Rattle.engine.specs.Acting.{fresh}
+use Rattle.engine.specs.Acting.{capturing, fresh_mark}
 
 -- the row of a name, which has to be held
 abbrev pub row_under : Parts → Name → Checked HeldRow
@@ -58,14 +56,6 @@ saved_value (Some (Enter n v)) = Err WrongFrame
 -- the top wind, which has to be there
 abbrev pub wind_on_top : Parts → Checked Wind
 wind_on_top p = ok_or (top p.winds.current) WrongFrame
-
--- `cc` and `cc1` of a procedure
-abbrev pub capturing : NameMove → FrameMove → Parts → Address → Plan
-capturing save push p q = does (naming save (writing (ToRegister zeroth (Continuation (fresh p))) (framing push (moves (Going q)))))
-
--- the Mark of the name that is made next
-abbrev pub fresh_mark : Parts → Frame
-fresh_mark p = Mark (fresh p)
 
 -- what an instruction at an address does
 abbrev pub executing : Instruction → Parts → Address → Plan

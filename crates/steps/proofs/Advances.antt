@@ -2,9 +2,9 @@
 use Rattle.std.proofs.Common.{◌≡◌, ℕ, suc, ◌-◌, ◌<◌, List, Result, ap, ◌∙◌, arith}
 use Rattle.code.specs.declared.instruction.Instruction.{Instruction}
 use Rattle.machine.specs.declared.end.End.{End}
-use Rattle.engine.specs.declared.turn.Turn.{Turn}
+use Rattle.steps.specs.declared.turn.Turn.{Turn}
 use Rattle.engine.specs.Parts.{Parts}
-use Rattle.engine.specs.Advancing.{Advanced, turning, by_turn, advancing}
+use Rattle.steps.specs.Advancing.{Advanced, turning, by_turn, advancing}
 
 module _ (code : List Instruction) (n k : ℕ) (p : Parts) (buffer : List ℕ) (at : ℕ) where
   abbrev rest : Parts → List ℕ → ℕ → Advanced

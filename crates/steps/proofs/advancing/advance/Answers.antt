@@ -1,7 +1,7 @@
 use Rattle.std.proofs.Common.{Ok, Err, add-one}
-use Rattle.engine.specs.declared.turn.Turn.TheVariants.{Went, NoRoom}
-use Rattle.engine.proofs.Advances.{stepped}
-use Rattle.engine.proofs.engine.Engine.advance.Goals as goal
+use Rattle.steps.specs.declared.turn.Turn.TheVariants.{Went, NoRoom}
+use Rattle.steps.proofs.Advances.{stepped}
+use Rattle.steps.proofs.advancing.advance.Goals as goal
 
 pub returns-in-Ok-NoRoom : goal.returns-in-Ok-NoRoom
 returns-in-Ok-NoRoom g c =

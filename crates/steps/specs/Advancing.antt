@@ -13,12 +13,12 @@ use Rattle.machine.specs.Step.{most_steps}
 use Rattle.printer.specs.Written.{written}
 use Rattle.engine.specs.declared.step.Step.{Step}
 use Rattle.engine.specs.declared.step.Step.TheVariants.{Made, Line, Finished}
-use Rattle.engine.specs.declared.stopped.Stopped.{Stopped}
-use Rattle.engine.specs.declared.turn.Turn.{Turn}
-use Rattle.engine.specs.declared.turn.Turn.TheVariants.{Went, NoRoom, Finished as TurnedLast}
+use Rattle.steps.specs.declared.stopped.Stopped.{Stopped}
+use Rattle.steps.specs.declared.turn.Turn.{Turn}
+use Rattle.steps.specs.declared.turn.Turn.TheVariants.{Went, NoRoom, Finished as TurnedLast}
 use Rattle.engine.specs.Parts.{Parts, turned}
 use Rattle.engine.specs.Acting.{Carried, carried}
-use Rattle.engine.specs.Planning.{planning}
+use Rattle.steps.specs.Planning.{planning}
 
 -- the next step
 abbrev pub stepping : List Instruction → Parts → Carried Step

@@ -1,8 +1,0 @@
-use Rattle.std.proofs.Common.{◌≡◌, ◌-◌}
-use Rattle.engine.specs.Advancing.{advancing}
-use Rattle.engine.proofs.engine.Engine.advance.Given as goal
-
--- going on from here comes to what the whole comes to
-abbrev pub invariant-loop-steps : goal.invariant-loop-steps
-invariant-loop-steps g l =
-    advancing l.code (l.budget - l.steps) l.steps l.self l.buffer l.bytes ≡ advancing l.code l.budget 0 l.initial.self l.initial.buffer 0
