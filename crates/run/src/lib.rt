@@ -1,5 +1,6 @@
 //! A run of the machine on two stores, and the calls on it: what each answers and leaves is what the machine's definition says.
-//! It rests on `engine`, which makes the steps, on `faithful`, that those are the machine's, and on `laws`, for what two runs have in common.
+//! It rests on `engine` and `steps`, which makes its steps, on `faithful`, that those are the machine's, and on `laws`, for what two runs
+//! have in common.
 #![tactic(auto)]
 
 pub mod admission;

@@ -17,6 +17,7 @@ use machine::progress::Progress;
 use machine::run_refusal::RunRefusal;
 use machine::tally::{Ending, NameTally, Tally, WindTally};
 use std::marker::Model;
+use steps::advancing::advance;
 use store::store::Store;
 
 /// What a run has come to.
@@ -94,7 +95,7 @@ impl<'a, F: Store, W: Store> Run<'a, F, W> {
             return Err(RunRefusal::HasEnded);
         }
         admit(budget, buffer.len())?;
-        let stopped = engine.advance(self.code, budget, buffer);
+        let stopped = advance(engine, self.code, budget, buffer);
         *end = stopped.end;
         Ok(stopped.progress)
     }

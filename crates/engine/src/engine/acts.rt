@@ -75,12 +75,7 @@ impl<F: Store, W: Store> Engine<F, W> {
     }
 
     /// The top frame is popped, and a register is written.
-    pub fn pop_into(
-        &mut self,
-        register: Register,
-        value: Value,
-        mode: Mode,
-    ) -> Result<Step, End>
+    pub fn pop_into(&mut self, register: Register, value: Value, mode: Mode) -> Result<Step, End>
         ensures { (result, self.new) ≡ carried (does (framing PopOne (writing (ToRegister register value) (moves mode)))) self.old }
     {
         self.pop_frame()?;
@@ -108,12 +103,7 @@ impl<F: Store, W: Store> Engine<F, W> {
     }
 
     /// A new wind is entered, and its body follows.
-    pub fn open_wind(
-        &mut self,
-        before: Address,
-        body: Address,
-        after: Address,
-    ) -> Result<Step, End>
+    pub fn open_wind(&mut self, before: Address, body: Address, after: Address) -> Result<Step, End>
         ensures { (result, self.new) ≡ carried (does (winding (Open before after) (framing (Replace Frame.Out) (moves (GoingAt body))))) self.old }
     {
         self.enter_new(before, after)?;
