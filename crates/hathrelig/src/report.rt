@@ -1,7 +1,9 @@
 //! What is printed of a run.
 ghost use Rattle.std.specs.Prelude.{OnOk};
+ghost use Rattle.std.specs.List.{flat_map};
 ghost use Rattle.std.specs.Io.KnownBytes.{Appends};
-ghost use Rattle.hathrelig.specs.Report.{last_line, call_text, run_text};
+ghost use Rattle.run.specs.Serving.{answers_in};
+ghost use Rattle.hathrelig.specs.Report.{last_line, exchange_text, run_text};
 
 use machine::tally::Tally;
 use run::exchange::Exchange;
@@ -21,7 +23,7 @@ fn print_end<W: Write>(out: &mut W, tally: &Tally) -> io::Result<()>
 
 /// Prints what a call was answered; one that was refused, since the run had ended, adds nothing.
 fn print_answer<W: Write>(out: &mut W, call: &Exchange) -> io::Result<()>
-    ensures { OnOk result (Appends (W.contents out.old) (W.contents out.new) (call_text call.now)) }
+    ensures { OnOk result (Appends (W.contents out.old) (W.contents out.new) (exchange_text call.now)) }
 {
     match call {
         Exchange::Run {
@@ -36,13 +38,20 @@ fn print_answer<W: Write>(out: &mut W, call: &Exchange) -> io::Result<()>
     }
 }
 
-/// Prints the name of a run's stores, and what its calls were answered.
-pub fn print_run<W: Write>(out: &mut W, name: &str, calls: &[Exchange]) -> io::Result<()>
-    ensures { OnOk result (Appends (W.contents out.old) (W.contents out.new) (run_text name.now calls.now)) }
+/// Prints what some calls were answered.
+fn print_answers<W: Write>(out: &mut W, calls: &[Exchange]) -> io::Result<()>
+    ensures { OnOk result (Appends (W.contents out.old) (W.contents out.new) (flat_map exchange_text calls.now)) }
 {
-    writeln!(out, "{name}")?;
     for call in calls {
         print_answer(out, call)?;
     }
     Ok(())
+}
+
+/// Prints the name of a run's stores, and what its calls were answered.
+pub fn print_run<W: Write>(out: &mut W, name: &str, calls: &[Exchange]) -> io::Result<()>
+    ensures { OnOk result (Appends (W.contents out.old) (W.contents out.new) (run_text name.now (answers_in calls.now))) }
+{
+    writeln!(out, "{name}")?;
+    print_answers(out, calls)
 }
