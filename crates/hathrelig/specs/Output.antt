@@ -20,7 +20,7 @@ abbrev pub calls_asked : List Call
 calls_asked = replicate 100 run_call_asked ++ (tally ∷ [])
 
 -- what a run of a code from zeros answers
-abbrev pub answers_of : List Instruction → Offer → Offer → List Answer
+unfoldable pub answers_of : List Instruction → Offer → Offer → List Answer
 answers_of code frames winds = (served (opened code (replicate 32 (pos 0)) frames winds) calls_asked).0
 
 -- the two runs of a code: on linked stores, and on copied ones, whose frames have a quota of 32 two layers above them

@@ -1,17 +1,19 @@
 //! The program: it reads a rule sheet from standard input, runs it on two kinds of stores, and prints what both runs came to.
 //! It rests on `sheet` and `run`, where everything that matters is, on the stores, and on `anyhow` for its errors.
 #![tactic(auto)]
+ghost use Rattle.std.specs.Prelude.{OnOk};
+ghost use Rattle.std.specs.Io.KnownBytes.{Appends};
+ghost use Rattle.hathrelig.specs.Output.{runs_text};
 
-use crate::calls::calls;
+use crate::both::run_both;
 use crate::report::print_run;
-use crate::stores::{layered_stores, linked_stores};
 use code::code::Code;
-use run::two_runs::two_runs;
 use sheet::reader::{MOST_BYTES, read};
 use std::alloc::Global;
 use std::io;
 use std::io::{BufWriter, Read, Write};
 
+mod both;
 mod calls;
 mod report;
 mod stores;
@@ -19,22 +21,13 @@ mod stores;
 /// How much of the input is read: a byte more than a sheet may have, so that one too long is seen.
 const MOST_INPUT: u64 = MOST_BYTES as u64 + 1;
 
-/// What the globals of a run begin with.
-const ZEROS: [i32; 32] = [0; 32];
-
-fn run_both(out: &mut impl Write, code: &Code, alloc: Global) -> io::Result<()> {
-    let mut first = calls(alloc)?;
-    let mut second = calls(alloc)?;
-    two_runs(
-        code,
-        ZEROS,
-        linked_stores(alloc)?,
-        layered_stores(alloc)?,
-        &mut first,
-        &mut second,
-    );
-    print_run(out, "linked", &first)?;
-    print_run(out, "copied", &second)
+/// Runs a code, and prints both runs.
+fn print_both<W: Write>(out: &mut W, code: &Code, alloc: Global) -> io::Result<()>
+    ensures { OnOk result (Appends (W.contents out.old) (W.contents out.new) (runs_text code.now)) }
+{
+    let both = run_both(code, alloc)?;
+    print_run(out, "linked", &both.linked)?;
+    print_run(out, "copied", &both.copied)
 }
 
 fn answer(out: &mut impl Write, input: impl Read + Drop, alloc: Global) -> io::Result<()> {
@@ -46,7 +39,7 @@ fn answer(out: &mut impl Write, input: impl Read + Drop, alloc: Global) -> io::R
         let refusal = answer.unwrap_err();
         return writeln!(out, "{refusal}");
     };
-    run_both(out, &code, alloc)
+    print_both(out, &code, alloc)
 }
 
 fn main(rt: HostRuntime) -> anyhow::Result<()> {
