@@ -1,9 +1,9 @@
 //! The program: it reads a rule sheet from standard input, runs it on two kinds of stores, and prints what both runs came to.
 //! It rests on `sheet` and `run`, where everything that matters is, on the stores, and on `anyhow` for its errors.
 #![tactic(auto)]
-ghost use Rattle.std.specs.Prelude.{OnOk};
+ghost use Rattle.std.specs.Prelude.{OnOk, IfSome};
 ghost use Rattle.std.specs.Io.KnownBytes.{Appends};
-ghost use Rattle.hathrelig.specs.Output.{runs_text};
+ghost use Rattle.hathrelig.specs.Output.{runs_text, output};
 
 use crate::both::run_both;
 use crate::report::print_run;
@@ -30,11 +30,12 @@ fn print_both<W: Write>(out: &mut W, code: &Code, alloc: Global) -> io::Result<(
     print_run(out, "copied", &both.copied)
 }
 
-fn answer(out: &mut impl Write, input: impl Read + Drop, alloc: Global) -> io::Result<()> {
-    let mut sheet = Vec::new(alloc);
-    input.take(MOST_INPUT).read_to_end(&mut sheet)?;
+/// Prints what a sheet comes to.
+fn answer<W: Write>(out: &mut W, sheet: &[u8], alloc: Global) -> io::Result<()>
+    ensures { OnOk result (Appends (W.contents out.old) (W.contents out.new) (output sheet.now)) }
+{
     let mut code = Code::empty();
-    let answer = read(&mut code, &sheet);
+    let answer = read(&mut code, sheet);
     let Ok(()) = answer else {
         let refusal = answer.unwrap_err();
         return writeln!(out, "{refusal}");
@@ -42,9 +43,18 @@ fn answer(out: &mut impl Write, input: impl Read + Drop, alloc: Global) -> io::R
     print_both(out, &code, alloc)
 }
 
+/// Reads a sheet, and prints what it comes to.
+fn answer_input<W: Write, R: Read + Drop>(out: &mut W, input: R, alloc: Global) -> io::Result<()>
+    ensures { OnOk result (IfSome (R.remaining input) (λ sheet. Appends (W.contents out.old) (W.contents out.new) (output sheet))) }
+{
+    let mut sheet = Vec::new(alloc);
+    input.take(MOST_INPUT).read_to_end(&mut sheet)?;
+    answer(out, &sheet, alloc)
+}
+
 fn main(rt: HostRuntime) -> anyhow::Result<()> {
     let mut out = BufWriter::new(rt.alloc(), rt.stdout())?;
-    answer(&mut out, rt.stdin(), rt.alloc())?;
+    answer_input(&mut out, rt.stdin(), rt.alloc())?;
     out.flush()?;
     Ok(())
 }
