@@ -1,2 +1,3 @@
 mod Texts
 mod Outputs
+mod Inputs

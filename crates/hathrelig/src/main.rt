@@ -1,7 +1,7 @@
 //! The program: it reads a rule sheet from standard input, runs it on two kinds of stores, and prints what both runs came to.
 //! It rests on `sheet` and `run`, where everything that matters is, on the stores, and on `anyhow` for its errors.
 #![tactic(auto)]
-ghost use Rattle.std.specs.Prelude.{OnOk, IfSome};
+ghost use Rattle.std.specs.Prelude.{◌≡◌, take, OnOk, IfOk, IfSome};
 ghost use Rattle.std.specs.Io.KnownBytes.{Appends};
 ghost use Rattle.hathrelig.specs.Output.{runs_text, output};
 
@@ -43,12 +43,20 @@ fn answer<W: Write>(out: &mut W, sheet: &[u8], alloc: Global) -> io::Result<()>
     print_both(out, &code, alloc)
 }
 
-/// Reads a sheet, and prints what it comes to.
-fn answer_input<W: Write, R: Read + Drop>(out: &mut W, input: R, alloc: Global) -> io::Result<()>
-    ensures { OnOk result (IfSome (R.remaining input) (λ sheet. Appends (W.contents out.old) (W.contents out.new) (output sheet))) }
+/// Reads as much of a sheet as tells whether it is too long.
+fn read_sheet<R: Read + Drop>(input: R, alloc: Global) -> io::Result<Vec<u8>>
+    ensures { IfOk result (λ sheet. IfSome (R.remaining input) (λ all. sheet.items ≡ take 16385 all)) }
 {
     let mut sheet = Vec::new(alloc);
     input.take(MOST_INPUT).read_to_end(&mut sheet)?;
+    Ok(sheet)
+}
+
+/// Reads a sheet, and prints what it comes to.
+fn answer_input<W: Write, R: Read + Drop>(out: &mut W, input: R, alloc: Global) -> io::Result<()>
+    ensures { OnOk result (IfSome (R.remaining input) (λ all. Appends (W.contents out.old) (W.contents out.new) (output all))) }
+{
+    let sheet = read_sheet(input, alloc)?;
     answer(out, &sheet, alloc)
 }
 
