@@ -16,7 +16,7 @@ mod advancing;
 mod arithmetic;
 mod calling;
 mod captures;
-mod cells;
+pub mod cells;
 mod executing;
 mod names;
 mod opening;

@@ -13,6 +13,7 @@ use Rattle.run.specs.Serving.{asked, answer_in, with_first, answers_in, exchange
 all_items : {Z : Type 0} (v : Vec ℕ Z) (bytes : List ℕ) → length bytes ≡ length v.items → (with_items v bytes).items ≡ bytes
 all_items v bytes h = rw (v.ok.0, ← h) (take-append_seam bytes (drop (length bytes) v.items))
 
+-- the answer that is put into an exchange, and the run after it
 answered_as : (r : Run) (e : Exchange) → answer_in (exchanged r e).0 ≡ Some (answered r (asked e)).0
 answered_as r (ToRun budget buffer answer) =
     ap (λ bytes. Some (to_run (ran r budget buffer.items).0 bytes)) (all_items buffer _ (buffers_kept r budget buffer.items).size)

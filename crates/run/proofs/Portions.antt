@@ -22,6 +22,7 @@ use Rattle.faithful.proofs.Portions.{portions_carried_out}
 use Rattle.run.specs.Admission.{admitted}
 use Rattle.run.specs.Stages.{run_of, Kept}
 
+-- a progress, by its fields
 told : (p : Progress) (steps bytes : ℕ) (reason : Reason) → p.steps ≡ steps → p.bytes ≡ bytes → p.reason ≡ reason
     → p ≡ record { steps = steps; bytes = bytes; reason = reason }
 told p steps bytes reason e f g =
@@ -34,6 +35,7 @@ accepted_as : (code : List Instruction) (p : Parts) (buffer : List ℕ) (q : Por
 accepted_as code p buffer q a h =
     cc (told a.0.progress q.steps (length q.bytes) q.reason h.steps h.bytes h.reason, h.end, h.buffer_after, h.state, h.limits)
 
+-- a run call that is accepted
 accepted_is : (r : Run) (budget : ℕ) (buffer : List ℕ) → r.end ≡ None → Ok tt ≡ admitted budget (length buffer)
     → ran r budget buffer ≡ accepted (portion r.limits r.code budget (length buffer) r.state) r buffer
 accepted_is r budget buffer e f = grind (arith, e, f)
@@ -60,5 +62,6 @@ joined_length (x ∷ xs) [] zs h = absurd h
 joined_length (x ∷ xs) (y ∷ ys) [] h = absurd h
 joined_length (x ∷ xs) (y ∷ ys) (z ∷ zs) h = ap suc (joined_length xs ys zs h.2)
 
+-- an engine's tally is that of the machine's state
 pub tally_as : (p : Parts) (end : Option End) → Together p → tally_of p end ≡ tallied (state_from p) end
 tally_as p end h = cc (joined_length p.frames.held p.winds.held p.rows h, length-reverse p.winds.current)

@@ -36,7 +36,7 @@ module _ (code : List Instruction) (numbers : List ℤ) (f w : Meaning Cell) (fi
   start_is : state_from new ≡ start numbers
   start_is = rw (frames, winds, frame_names) refl
 
-  pub new_kept : Kept code new None
+  new_kept : Kept code new None
   new_kept =
       let together : Together new = rw (frame_names, wind_names) tt in
       record { together = together; sound = λ _. record { comes = (numbers, 0, sym start_is, refl); together = together } }

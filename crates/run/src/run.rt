@@ -3,12 +3,13 @@ ghost use Rattle.std.specs.Prelude.{◌≡◌, [], Some};
 ghost use Rattle.machine.specs.Opening.{opened, offer_of};
 ghost use Rattle.machine.specs.declared.end.End.TheVariants.{UnfitStores};
 ghost use Rattle.machine.specs.State.{start};
-ghost use Rattle.machine.specs.Calls.{ran, tallied, cell_at as cell_told, looked, forced};
+ghost use Rattle.machine.specs.Calls.{ran, tallied, looked, forced};
 
 use crate::admission::admit;
 use cell::address::Address;
 use cell::cell::Cell;
 use code::code::Code;
+use engine::engine::cells::cell_at;
 use engine::engine::{Engine, GLOBALS};
 use machine::end::End;
 use machine::index_refusal::IndexRefusal;
@@ -67,16 +68,6 @@ fn unfit_tally() -> Tally
             end: End::UnfitStores,
             address: Address(0),
         }),
-    }
-}
-
-/// The cell at an index of a store.
-fn cell_at<S: Store>(store: &S, index: u32) -> Result<Cell, IndexRefusal>
-    ensures { result ≡ cell_told (S.meaning store.now).current index }
-{
-    match store.cell_at(index) {
-        Ok(cell) => Ok(cell),
-        Err(_) => Err(IndexRefusal::Beyond),
     }
 }
 

@@ -30,7 +30,7 @@ fn open_and_serve<'a, F: Store, W: Store>(
 }
 
 /// Opens two runs of a code with the same numbers, each on stores of its own, and carries out a list on each. Whatever the stores and
-/// the lists are, the two agree in all that they have come to.
+/// the lists are, each run gives what the machine's definition says, and at equal step counts the two tell the same.
 pub fn two_runs<'a, F: Store, W: Store, G: Store, V: Store>(
     code: &'a Code,
     numbers: [i32; GLOBALS],

@@ -27,7 +27,7 @@ impl<F: Store, W: Store> Engine<F, W> {
         number(self.register(register))
     }
 
-    /// `add`
+    /// `add`: the sum of two numbers goes to a register.
     pub(crate) fn add(
         &mut self,
         a: Register,
@@ -44,7 +44,7 @@ impl<F: Store, W: Store> Engine<F, W> {
         Ok(self.write(a, Value::Number(sum), Mode::Going(after(at))))
     }
 
-    /// `sub`
+    /// `sub`: their difference does.
     pub(crate) fn subtract(
         &mut self,
         a: Register,
@@ -61,7 +61,7 @@ impl<F: Store, W: Store> Engine<F, W> {
         Ok(self.write(a, Value::Number(difference), Mode::Going(after(at))))
     }
 
-    /// `less`
+    /// `less`: 1 does if the first is less, and else 0.
     pub(crate) fn compare(
         &mut self,
         a: Register,
@@ -78,7 +78,7 @@ impl<F: Store, W: Store> Engine<F, W> {
         Ok(self.write(a, Value::Number(less), Mode::Going(after(at))))
     }
 
-    /// `zero`
+    /// `zero`: the target follows if the number is 0.
     pub(crate) fn jump_at_zero(
         &mut self,
         register: Register,

@@ -1,7 +1,8 @@
 //! Instructions on procedures, continuations and saved values.
 ghost use Rattle.std.specs.Prelude.{◌≡◌, ◌<◌};
+ghost use Rattle.machine.specs.declared.frame_move.FrameMove.TheVariants.{Keep};
 ghost use Rattle.machine.specs.Checks.{procedure as procedure_of};
-ghost use Rattle.machine.specs.Going.{reg};
+ghost use Rattle.machine.specs.Going.{reg, zeroth, enters_by};
 ghost use Rattle.engine.specs.Acting.{carried};
 ghost use Rattle.engine.specs.Parts.{state_from};
 ghost use Rattle.engine.specs.Planning.{executing};
@@ -29,7 +30,7 @@ impl<F: Store, W: Store> Engine<F, W> {
         procedure(self.register(register))
     }
 
-    /// `pop`
+    /// `pop`: a value that a `push` saved goes back to a register.
     pub(crate) fn pop_saved(&mut self, register: Register, at: Address) -> Result<Step, End>
         requires { at.0 < CAPACITY }
         ensures { (result, self.new) ≡ carried (executing (Instruction.Pop register) self.old at) self.old }
@@ -40,7 +41,7 @@ impl<F: Store, W: Store> Engine<F, W> {
         self.pop_into(register, value, Mode::Going(after(at)))
     }
 
-    /// `call`
+    /// `call`: a procedure returns to the next instruction; a continuation is thrown to.
     pub(crate) fn call(&mut self, register: Register, at: Address) -> Result<Step, End>
         requires { at.0 < CAPACITY }
         ensures { (result, self.new) ≡ carried (executing (Instruction.Call register) self.old at) self.old }
@@ -54,9 +55,9 @@ impl<F: Store, W: Store> Engine<F, W> {
         }
     }
 
-    /// `tail`
-    pub(crate) fn tail(&mut self, register: Register, at: Address) -> Result<Step, End>
-        ensures { (result, self.new) ≡ carried (executing (Instruction.Tail register) self.old at) self.old }
+    /// `tail`: the same with no return, so that it asks for no address.
+    pub(crate) fn tail(&mut self, register: Register) -> Result<Step, End>
+        ensures { (result, self.new) ≡ carried (enters_by Keep (reg (state_from self.old) register) (reg (state_from self.old) zeroth)) self.old }
     {
         match self.register(register) {
             Value::Procedure(body) => Ok(self.go(Mode::Going(body))),
@@ -67,7 +68,7 @@ impl<F: Store, W: Store> Engine<F, W> {
         }
     }
 
-    /// `cc`
+    /// `cc`: a procedure is called with the continuation of the next instruction, for many throws.
     pub(crate) fn call_many(&mut self, register: Register, at: Address) -> Result<Step, End>
         requires { at.0 < CAPACITY }
         ensures { (result, self.new) ≡ carried (executing (Instruction.CallCc register) self.old at) self.old }
@@ -76,7 +77,7 @@ impl<F: Store, W: Store> Engine<F, W> {
         self.capture_many(after(at), body)
     }
 
-    /// `cc1`
+    /// `cc1`: the same for one throw.
     pub(crate) fn call_once(&mut self, register: Register, at: Address) -> Result<Step, End>
         requires { at.0 < CAPACITY }
         ensures { (result, self.new) ≡ carried (executing (Instruction.CallOnce register) self.old at) self.old }
@@ -85,7 +86,7 @@ impl<F: Store, W: Store> Engine<F, W> {
         self.capture_once(after(at), body)
     }
 
-    /// `forget`
+    /// `forget`: a name that is held is held no more.
     pub(crate) fn forget_held(&mut self, register: Register, at: Address) -> Result<Step, End>
         requires { at.0 < CAPACITY }
         ensures { (result, self.new) ≡ carried (executing (Instruction.Forget register) self.old at) self.old }
@@ -95,7 +96,7 @@ impl<F: Store, W: Store> Engine<F, W> {
         self.forget(name, Mode::Going(after(at)))
     }
 
-    /// `wind`
+    /// `wind`: the before follows, and its wind waits for its return.
     pub(crate) fn wind(
         &mut self,
         a: Register,

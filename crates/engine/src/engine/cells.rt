@@ -8,7 +8,7 @@ use machine::index_refusal::IndexRefusal;
 use store::store::Store;
 
 /// The cell at an index of a store; the bottom has index 0.
-fn cell_at<S: Store>(store: &S, index: u32) -> Result<Cell, IndexRefusal>
+pub fn cell_at<S: Store>(store: &S, index: u32) -> Result<Cell, IndexRefusal>
     ensures { result ≡ cell_at (S.meaning store.now).current index }
 {
     store.cell_at(index).ok().ok_or(IndexRefusal::Beyond)

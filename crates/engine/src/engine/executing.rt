@@ -55,7 +55,7 @@ impl<F: Store, W: Store> Engine<F, W> {
             Instruction::Pop(r) => self.pop_saved(r, at),
             Instruction::Print(r) => self.print(r, at),
             Instruction::Call(r) => self.call(r, at),
-            Instruction::Tail(r) => self.tail(r, at),
+            Instruction::Tail(r) => self.tail(r),
             Instruction::CallCc(r) => self.call_many(r, at),
             Instruction::CallOnce(r) => self.call_once(r, at),
             Instruction::Forget(r) => self.forget_held(r, at),

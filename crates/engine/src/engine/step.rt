@@ -1,17 +1,14 @@
 //! The next step: the mode, with the top frame, says what is done and what mode comes after it.
-ghost use Rattle.std.specs.Prelude.{◌≡◌, Ok, None, Some};
-ghost use Rattle.cell.specs.declared.frame.Frame.TheVariants.{Mark as MarkOf, Out as OutNow, Enter as EnterAgain};
+ghost use Rattle.std.specs.Prelude.{◌≡◌};
 ghost use Rattle.engine.specs.Acting.{carried};
 ghost use Rattle.engine.specs.Advancing.{stepping};
-ghost use Rattle.engine.specs.Planning.{planning, resuming};
+ghost use Rattle.engine.specs.Planning.{planning};
 ghost use Rattle.engine.specs.Waiting.{waiting};
 
 use crate::engine::Engine;
 use crate::engine::captures::ZEROTH;
 use crate::step::Step;
 use cell::frame::Frame;
-use cell::name::Name;
-use cell::value::Value;
 use code::code::Code;
 use machine::end::End;
 use machine::mode::Mode;
