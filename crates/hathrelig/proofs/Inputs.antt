@@ -20,8 +20,8 @@ cut_short sheet =
     ⊎_elim
     (λ short. ap reading (take_all 16385 sheet short.1))
     (λ long.
-        let all = length-take-le 16385 sheet (omega (long.1, arith)) in
-        too_long (take 16385 sheet) (omega (all, arith)) ∙ sym (too_long sheet (omega (long.1, arith))))
+    let all = length-take-le 16385 sheet (omega (long.1, arith)) in
+    too_long (take 16385 sheet) (omega (all, arith)) ∙ sym (too_long sheet (omega (long.1, arith))))
     (leb_tells (length sheet) 16385)
 
 -- what is known of an input, cut at its limit

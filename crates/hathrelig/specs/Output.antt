@@ -1,5 +1,5 @@
 -- What the program prints for a sheet.
-use Rattle.std.specs.Prelude.{ℕ, List, [], ◌∷◌, ◌++◌, replicate, pos, ℤ, Ok, Err, Result, codes}
+use Rattle.std.specs.Prelude.{ℕ, List, [], ◌∷◌, ◌++◌, replicate, pos, Ok, Err, Result, codes}
 use Rattle.code.specs.declared.instruction.Instruction.{Instruction}
 use Rattle.machine.specs.Opening.{Offer, opened}
 use Rattle.machine.specs.Calls.{Call, run, tally, Answer, served}

@@ -1,6 +1,7 @@
 //! The program: it reads a rule sheet from standard input, runs it on two kinds of stores, and prints what both runs came to.
 //! It rests on `sheet` and `run`, where everything that matters is, on the stores, and on `anyhow` for its errors.
 #![tactic(auto)]
+
 ghost use Rattle.std.specs.Prelude.{◌≡◌, take, OnOk, IfOk, IfSome};
 ghost use Rattle.std.specs.Io.KnownBytes.{Appends};
 ghost use Rattle.hathrelig.specs.Output.{runs_text, output};
