@@ -1,4 +1,7 @@
 //! What is asked of a run.
+ghost use Rattle.std.specs.Prelude.{◌≡◌, map, IfOk};
+ghost use Rattle.run.specs.Serving.{asked};
+ghost use Rattle.hathrelig.specs.Output.{run_call_asked, calls_asked};
 
 use run::exchange::Exchange;
 use std::alloc::{AllocError, Global};
@@ -11,7 +14,9 @@ const BUDGET: u32 = 1000;
 /// The longest line has 12 bytes, so no call stops for its buffer.
 const BUFFER: usize = 12000;
 
-fn run_call(alloc: Global) -> Result<Exchange, AllocError> {
+fn run_call(alloc: Global) -> Result<Exchange, AllocError>
+    ensures { IfOk result (λ exchange. asked exchange ≡ run_call_asked) }
+{
     Ok(Exchange::Run {
         budget: BUDGET,
         buffer: vec![in alloc; 0u8; BUFFER]?,
@@ -20,7 +25,9 @@ fn run_call(alloc: Global) -> Result<Exchange, AllocError> {
 }
 
 /// The calls that make steps, and then a tally.
-pub fn calls(alloc: Global) -> Result<Vec<Exchange>, AllocError> {
+pub fn calls(alloc: Global) -> Result<Vec<Exchange>, AllocError>
+    ensures { IfOk result (λ exchanges. map asked exchanges.items ≡ calls_asked) }
+{
     let mut calls = Vec::with_capacity(alloc, CALLS + 1)?;
     for _ in 0..CALLS {
         calls.push(run_call(alloc)?)?;
