@@ -1,7 +1,6 @@
 //! Calls, and the rows of the tables.
 
 /// A call on a run; `run` has a budget and the size of its buffer.
-#[derive(Clone, Copy)]
 pub enum Call {
     Run(u32, usize),
     Tally,

@@ -8,8 +8,6 @@ mod call;
 #[cfg(test)]
 mod cases;
 #[cfg(test)]
-mod levels;
-#[cfg(test)]
 mod lists;
 #[cfg(test)]
 mod portions;

@@ -1,12 +1,12 @@
 //! What is done with runs.
 
 use crate::call::Call;
-use crate::told::{tell_lines, tell_tally};
+use crate::told::{tell_all, tell_lines, tell_tally};
 use code::code::Code;
 use run::exchange::Exchange;
 use run::run::Run;
+use run::serve::serve;
 use sheet::reader::read;
-use sheet::refusal::SheetRefusal;
 use std::alloc::{AllocError, Global};
 use store::store::Store;
 
@@ -19,15 +19,15 @@ pub const LARGEST: usize = 4096;
 /// More calls than any run here takes.
 const MOST_CALLS: usize = 100_000;
 
-/// The code of a sheet.
-pub fn code(sheet: &[u8]) -> Result<Code, SheetRefusal> {
+/// The code of a sheet, which is none if the sheet is refused.
+pub fn code(sheet: &[u8]) -> Code {
     let mut code = Code::empty();
-    read(&mut code, sheet)?;
-    Ok(code)
+    let _ = read(&mut code, sheet);
+    code
 }
 
-fn exchange(heap: Global, call: Call) -> Result<Exchange, AllocError> {
-    Ok(match call {
+fn exchange(heap: Global, call: &Call) -> Result<Exchange, AllocError> {
+    Ok(match *call {
         Call::Run(budget, size) => Exchange::Run {
             budget,
             buffer: vec![in heap; 0u8; size]?,
@@ -48,26 +48,36 @@ fn exchange(heap: Global, call: Call) -> Result<Exchange, AllocError> {
 /// Calls that have no answer yet.
 pub fn exchanges(heap: Global, calls: &[Call]) -> Result<Vec<Exchange>, AllocError> {
     let mut list = Vec::new(heap);
-    for &call in calls {
+    for call in calls {
         list.push(exchange(heap, call)?)?;
     }
     Ok(list)
 }
 
-/// Runs to the end by calls of these budgets and buffers, over and over, and tells all that was printed and then the tally.
-pub fn run_to_end<F: Store, W: Store>(
+/// Asks a run and tells its answers.
+pub fn ask<F: Store, W: Store>(
     heap: Global,
     run: &mut Run<'_, F, W>,
+    calls: &[Call],
+    text: &mut String,
+) -> Result<(), AllocError> {
+    let mut list = exchanges(heap, calls)?;
+    serve(run, &mut list);
+    tell_all(text, &list)
+}
+
+/// Runs to the end by calls of these budgets and buffers, over and over, and tells all that was printed and then the tally.
+pub fn run_to_end<F: Store, W: Store>(
+    run: &mut Run<'_, F, W>,
     parts: &[(u32, usize)],
-) -> Result<String, AllocError> {
-    let mut text = String::new(heap);
+    text: &mut String,
+) -> Result<(), AllocError> {
     let mut buffer = [0; LARGEST];
     for &(budget, size) in parts.iter().cycle().take(MOST_CALLS) {
         match run.run(budget, &mut buffer[..size.min(LARGEST)]) {
-            Ok(progress) => tell_lines(&mut text, &buffer, progress.bytes)?,
+            Ok(progress) => tell_lines(text, &buffer, progress.bytes)?,
             Err(_) => break,
         }
     }
-    tell_tally(&mut text, &run.tally())?;
-    Ok(text)
+    tell_tally(text, &run.tally())
 }

@@ -9,7 +9,7 @@ use linked::node::Node;
 use std::alloc::{AllocError, Global};
 
 /// The depth limit of each bottom store.
-pub const DEPTH: u32 = 64;
+const DEPTH: u32 = 64;
 
 /// The limits of most runs.
 pub const USUAL: Limits = Limits {
@@ -36,14 +36,20 @@ fn copied(heap: Global, depth: u32, names: u32) -> Result<CopiedQuota, AllocErro
 }
 
 /// A frame store and a wind store of linked frames.
-pub fn both_linked(heap: Global, limits: Limits) -> Result<(LinkedQuota, LinkedQuota), AllocError> {
+pub fn both_linked(
+    heap: Global,
+    limits: &Limits,
+) -> Result<(LinkedQuota, LinkedQuota), AllocError> {
     let frames = linked(heap, limits.frames, limits.names)?;
     let winds = linked(heap, limits.winds, limits.names)?;
     Ok((frames, winds))
 }
 
 /// A frame store and a wind store of copied stacks.
-pub fn both_copied(heap: Global, limits: Limits) -> Result<(CopiedQuota, CopiedQuota), AllocError> {
+pub fn both_copied(
+    heap: Global,
+    limits: &Limits,
+) -> Result<(CopiedQuota, CopiedQuota), AllocError> {
     let frames = copied(heap, limits.frames, limits.names)?;
     let winds = copied(heap, limits.winds, limits.names)?;
     Ok((frames, winds))

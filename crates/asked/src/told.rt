@@ -6,7 +6,7 @@ use machine::progress::Progress;
 use machine::run_refusal::RunRefusal;
 use machine::tally::Tally;
 use run::exchange::Exchange;
-use std::alloc::{AllocError, Global};
+use std::alloc::AllocError;
 
 fn tell_progress(text: &mut String, progress: Progress, buffer: &[u8]) -> Result<(), AllocError> {
     let reason = progress.reason.number();
@@ -44,9 +44,13 @@ pub fn tell_lines(text: &mut String, buffer: &[u8], bytes: usize) -> Result<(), 
 pub fn tell_tally(text: &mut String, tally: &Tally) -> Result<(), AllocError> {
     let names = tally.names;
     let winds = tally.winds;
-    write!(text, "tally {} {} {} ", tally.steps, names.made, names.used)?;
-    write!(text, "{} {} ", names.forgotten, names.held)?;
-    write!(text, "{} {} {}", winds.entered, winds.left, winds.current)?;
+    write!(text, "tally {}", tally.steps)?;
+    for n in [names.made, names.used, names.forgotten, names.held] {
+        write!(text, " {n}")?;
+    }
+    for n in [winds.entered, winds.left, winds.current] {
+        write!(text, " {n}")?;
+    }
     if let Some(ending) = tally.ending {
         write!(text, " {} {}", ending.end.number(), ending.address.0)?;
     }
@@ -94,12 +98,4 @@ pub fn tell_all(text: &mut String, exchanges: &[Exchange]) -> Result<(), AllocEr
         tell(text, exchange)?;
     }
     Ok(())
-}
-
-/// The answers that stand in a list of calls, and then those in another.
-pub fn told(heap: Global, exchanges: &[Exchange], more: &[Exchange]) -> Result<String, AllocError> {
-    let mut text = String::new(heap);
-    tell_all(&mut text, exchanges)?;
-    tell_all(&mut text, more)?;
-    Ok(text)
 }

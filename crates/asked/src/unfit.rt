@@ -1,19 +1,16 @@
 //! Runs on stores that are not empty or hold a name.
 
 use crate::call::Call;
-use crate::runs::{ZEROS, code, exchanges};
+use crate::runs::{ZEROS, ask, code};
 use crate::stores::{USUAL, both_copied};
-use crate::told::told;
 use cell::cell::Cell;
 use cell::name::Name;
 use run::run::Run;
-use run::serve::serve;
-use std::alloc::Global;
+use std::alloc::{AllocError, Global};
 use std::test::Fail;
 use store::store::Store;
 
 /// What is in a store when a run is opened on it.
-#[derive(Clone, Copy)]
 struct Content {
     cells: u32,
     named: bool,
@@ -87,7 +84,7 @@ const UNFIT: [(Content, Content, &str); 6] = [
 const ENDED: &str = "refused 20\nrefused 20\ntally 0 0 0 0 0 0 0 0 43 0\n";
 
 /// Fills a store with cells that no frame is written as.
-fn fill<S: Store>(store: &mut S, content: Content) {
+fn fill<S: Store>(store: &mut S, content: &Content) {
     for i in 0..content.cells {
         let _ = store.push(Cell {
             words: [9, i, i, i],
@@ -99,23 +96,23 @@ fn fill<S: Store>(store: &mut S, content: Content) {
 }
 
 /// What a run on stores with these contents tells.
-fn tells(heap: Global, in_frames: Content, in_winds: Content) -> Result<String, Fail> {
-    let code = code(b"set r0 1\nprint r0\n")?;
-    let (mut frames, mut winds) = both_copied(heap, USUAL)?;
+fn tells(heap: Global, in_frames: &Content, in_winds: &Content) -> Result<String, AllocError> {
+    let code = code(b"set r0 1\nprint r0\n");
+    let (mut frames, mut winds) = both_copied(heap, &USUAL)?;
     fill(&mut frames, in_frames);
     fill(&mut winds, in_winds);
     let mut run = Run::open(&code, ZEROS, frames, winds);
-    let mut exchanges = exchanges(heap, &CALLS)?;
-    serve(&mut run, &mut exchanges);
-    Ok(told(heap, &exchanges, &[])?)
+    let mut text = String::new(heap);
+    ask(heap, &mut run, &CALLS, &mut text)?;
+    Ok(text)
 }
 
 // The run has ended, has done nothing, and tells the cells of both stores.
 #[test]
 fn contents_stay(rt: HostRuntime) -> Result<(), Fail> {
-    for (in_frames, in_winds, cells) in UNFIT {
+    for (in_frames, in_winds, cells) in &UNFIT {
         let told = tells(rt.alloc(), in_frames, in_winds)?;
-        assert_eq!(rt; told.strip_prefix(ENDED), Some(cells));
+        assert_eq!(rt; told.strip_prefix(ENDED), Some(*cells));
     }
     Ok(())
 }
