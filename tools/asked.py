@@ -4,7 +4,8 @@
   tools/asked.py       writes crates/asked/src/cases.rt
 
 No answer is written by hand: each is what `tools/evaluator/evaluate.py` tells, `--calls` for lists of calls and `--model`
-for runs to their end. In a sheet, `/` parts the lines. Limits are frames, winds and names; (48, 16, 7) unless told.
+for runs to their end. In a sheet, `/` parts the lines. Limits are frames, winds, names of the frame store and names of the
+wind store, which are as many unless told; (48, 16, 7) is usual.
 """
 import subprocess
 import sys
@@ -28,12 +29,22 @@ FRAMES = ("set r1 -1/push r1/proc r2 one/push r2/push r3/call r2/stop/:one/proc 
 # A throw that leaves one wind and enters another.
 THROWS = next(sheet for title, sheet, _ in SHEETS if title.startswith("winds of equal procedures"))
 
+# The last two globals begin with numbers, the others with 0.
+NUMBERS_GIVEN = [0] * 30 + [2147483647, -5]
+GIVEN = "load r0 g30/print r0/load r0 g31/print r0/load r0 g29/print r0"
+
+# One frame less than the least limit, and then an instruction that pushes two.
+FULL = "push r0/" * 15 + "proc r1 f/%s/:f/ret"
+
+CAPTURES = ":f/proc r1 f/cc r1"
+
 REFUSED = ["run 0 12", "run 1000001 12", "run 0 0", "run 1 11", "run 1 0", "tally", "look 0", "force 0"]
 
 
 def evaluate(sheet, limits, *options):
-    frames, winds, names = limits
-    given = ["--frames", frames, "--winds", winds, "--frame-names", names, "--wind-names", names, *options]
+    frames, winds, names, *others = limits
+    given = ["--frames", frames, "--winds", winds, "--frame-names", names, "--wind-names", *(others or [names])]
+    given += ["--numbers", *NUMBERS_GIVEN, *options]
     told = subprocess.run([sys.executable, EVALUATOR, *map(str, given)], input=sheet.encode(), capture_output=True, check=True)
     return told.stdout.decode()
 
@@ -72,6 +83,10 @@ def lists():
     for title, limits in (("a frame store that is too low", (15, 16, 7)), ("a wind store that is too low", (48, 3, 7)),
                           ("stores for one name", (48, 16, 1)), ("the least limits", (16, 4, 2))):
         yield title, "set r0 1/print r0/stop", limits, ["run 2 12", "run 0 0", "tally", "look 0", "force 0"]
+    for title, sheet, limits in (("numbers that the run is given", GIVEN, USUAL), ("few names in the wind store", CAPTURES, (48, 16, 7, 3)),
+                                 ("few names in the frame store", CAPTURES, (48, 16, 3, 7)), ("no room for two frames of cc1", FULL % "cc1 r1", (16, 16, 7)),
+                                 ("no room for two frames of a wind", FULL % "wind r1 r1 r1", (16, 16, 7))):
+        yield title, sheet, limits, ["run 1000000 1200", "tally", "look 14", "look 15"]
     for title, sheet, limits in SHEETS:
         yield title, sheet, limits, ["run 5 12", "tally", "look 0", "force 0", "run 1000000 1200", "tally", "run 1 12", "look 1"]
 
@@ -87,9 +102,9 @@ def call(text):
 
 def case(title, sheet, limits, calls):
     sheet = sheet.replace("/", "\n")
-    frames, winds, names = limits
+    frames, winds, names, *others = limits
     rows = [f"    // {title.capitalize()}.", "    Case {", f"        sheet: b{quoted(sheet)},"]
-    rows += ["        limits: Limits {", f"            frames: {frames},", f"            winds: {winds},", f"            names: {names},", "        },"]
+    rows += ["        limits: Limits {", f"            frames: {frames},", f"            winds: {winds},", f"            frame_names: {names},", f"            wind_names: {(others or [names])[0]},", "        },"]
     rows += ["        calls: &["] + [f"            {call(c)}," for c in calls] + ["        ],"]
     rows += [f"        told: {quoted(answers(sheet, limits, calls))},", "    },"]
     return "\n".join(rows) + "\n"

@@ -13,7 +13,8 @@ pub enum Call {
 pub struct Limits {
     pub frames: u32,
     pub winds: u32,
-    pub names: u32,
+    pub frame_names: u32,
+    pub wind_names: u32,
 }
 
 /// A sheet with calls, and their answers, a line for each.

@@ -3,14 +3,15 @@
 use crate::call::{Call, Case, Limits, Whole};
 
 /// Lists of calls.
-pub const CASES: [Case; 33] = [
+pub const CASES: [Case; 38] = [
     // Lines of every length in buffers of 12 bytes.
     Case {
         sheet: b"set r0 0\nprint r0\nset r0 9\nprint r0\nset r0 -1\nprint r0\nset r0 10\nprint r0\nset r0 -10\nprint r0\nset r0 100\nprint r0\nset r0 -999\nprint r0\nset r0 1000\nprint r0\nset r0 -9999\nprint r0\nset r0 10000\nprint r0\nset r0 -10000\nprint r0\nset r0 999999\nprint r0\nset r0 -100000\nprint r0\nset r0 1000000\nprint r0\nset r0 -9999999\nprint r0\nset r0 10000000\nprint r0\nset r0 -10000000\nprint r0\nset r0 999999999\nprint r0\nset r0 -100000000\nprint r0\nset r0 2147483647\nprint r0\nset r0 -2147483648\nprint r0",
         limits: Limits {
             frames: 48,
             winds: 16,
-            names: 7,
+            frame_names: 7,
+            wind_names: 7,
         },
         calls: &[
             Call::Run(0, 12),
@@ -58,7 +59,8 @@ pub const CASES: [Case; 33] = [
         limits: Limits {
             frames: 48,
             winds: 16,
-            names: 7,
+            frame_names: 7,
+            wind_names: 7,
         },
         calls: &[
             Call::Run(0, 12),
@@ -106,7 +108,8 @@ pub const CASES: [Case; 33] = [
         limits: Limits {
             frames: 48,
             winds: 16,
-            names: 7,
+            frame_names: 7,
+            wind_names: 7,
         },
         calls: &[
             Call::Run(1, 12),
@@ -129,7 +132,8 @@ pub const CASES: [Case; 33] = [
         limits: Limits {
             frames: 48,
             winds: 16,
-            names: 7,
+            frame_names: 7,
+            wind_names: 7,
         },
         calls: &[
             Call::Run(4, 12),
@@ -274,7 +278,8 @@ pub const CASES: [Case; 33] = [
         limits: Limits {
             frames: 48,
             winds: 16,
-            names: 7,
+            frame_names: 7,
+            wind_names: 7,
         },
         calls: &[
             Call::Run(3, 12),
@@ -475,7 +480,8 @@ pub const CASES: [Case; 33] = [
         limits: Limits {
             frames: 15,
             winds: 16,
-            names: 7,
+            frame_names: 7,
+            wind_names: 7,
         },
         calls: &[
             Call::Run(2, 12),
@@ -492,7 +498,8 @@ pub const CASES: [Case; 33] = [
         limits: Limits {
             frames: 48,
             winds: 3,
-            names: 7,
+            frame_names: 7,
+            wind_names: 7,
         },
         calls: &[
             Call::Run(2, 12),
@@ -509,7 +516,8 @@ pub const CASES: [Case; 33] = [
         limits: Limits {
             frames: 48,
             winds: 16,
-            names: 1,
+            frame_names: 1,
+            wind_names: 1,
         },
         calls: &[
             Call::Run(2, 12),
@@ -526,7 +534,8 @@ pub const CASES: [Case; 33] = [
         limits: Limits {
             frames: 16,
             winds: 4,
-            names: 2,
+            frame_names: 2,
+            wind_names: 2,
         },
         calls: &[
             Call::Run(2, 12),
@@ -537,13 +546,99 @@ pub const CASES: [Case; 33] = [
         ],
         told: "steps 2 bytes 2 reason 0 310a\nrefused 21\ntally 2 0 0 0 0 0 0 0\nrefused 23\nrefused 23\n",
     },
+    // Numbers that the run is given.
+    Case {
+        sheet: b"load r0 g30\nprint r0\nload r0 g31\nprint r0\nload r0 g29\nprint r0",
+        limits: Limits {
+            frames: 48,
+            winds: 16,
+            frame_names: 7,
+            wind_names: 7,
+        },
+        calls: &[
+            Call::Run(1000000, 1200),
+            Call::Tally,
+            Call::Look(14),
+            Call::Look(15),
+        ],
+        told: "steps 6 bytes 16 reason 2 323134373438333634370a2d350a300a\ntally 6 0 0 0 0 0 0 0 34 6\nrefused 23\nrefused 23\n",
+    },
+    // Few names in the wind store.
+    Case {
+        sheet: b":f\nproc r1 f\ncc r1",
+        limits: Limits {
+            frames: 48,
+            winds: 16,
+            frame_names: 7,
+            wind_names: 3,
+        },
+        calls: &[
+            Call::Run(1000000, 1200),
+            Call::Tally,
+            Call::Look(14),
+            Call::Look(15),
+        ],
+        told: "steps 7 bytes 0 reason 2 \ntally 7 3 0 0 3 0 0 0 42 1\nrefused 23\nrefused 23\n",
+    },
+    // Few names in the frame store.
+    Case {
+        sheet: b":f\nproc r1 f\ncc r1",
+        limits: Limits {
+            frames: 48,
+            winds: 16,
+            frame_names: 3,
+            wind_names: 7,
+        },
+        calls: &[
+            Call::Run(1000000, 1200),
+            Call::Tally,
+            Call::Look(14),
+            Call::Look(15),
+        ],
+        told: "steps 7 bytes 0 reason 2 \ntally 7 3 0 0 3 0 0 0 42 1\nrefused 23\nrefused 23\n",
+    },
+    // No room for two frames of cc1.
+    Case {
+        sheet: b"push r0\npush r0\npush r0\npush r0\npush r0\npush r0\npush r0\npush r0\npush r0\npush r0\npush r0\npush r0\npush r0\npush r0\npush r0\nproc r1 f\ncc1 r1\n:f\nret",
+        limits: Limits {
+            frames: 16,
+            winds: 16,
+            frame_names: 7,
+            wind_names: 7,
+        },
+        calls: &[
+            Call::Run(1000000, 1200),
+            Call::Tally,
+            Call::Look(14),
+            Call::Look(15),
+        ],
+        told: "steps 16 bytes 0 reason 2 \ntally 16 0 0 0 0 0 0 0 40 16\ncell 1 0 0 0\nrefused 23\n",
+    },
+    // No room for two frames of a wind.
+    Case {
+        sheet: b"push r0\npush r0\npush r0\npush r0\npush r0\npush r0\npush r0\npush r0\npush r0\npush r0\npush r0\npush r0\npush r0\npush r0\npush r0\nproc r1 f\nwind r1 r1 r1\n:f\nret",
+        limits: Limits {
+            frames: 16,
+            winds: 16,
+            frame_names: 7,
+            wind_names: 7,
+        },
+        calls: &[
+            Call::Run(1000000, 1200),
+            Call::Tally,
+            Call::Look(14),
+            Call::Look(15),
+        ],
+        told: "steps 16 bytes 0 reason 2 \ntally 16 0 0 0 0 0 0 0 40 16\ncell 1 0 0 0\nrefused 23\n",
+    },
     // A number is printed.
     Case {
         sheet: b"set r0 7\nprint r0\nstop",
         limits: Limits {
             frames: 48,
             winds: 16,
-            names: 7,
+            frame_names: 7,
+            wind_names: 7,
         },
         calls: &[
             Call::Run(5, 12),
@@ -563,7 +658,8 @@ pub const CASES: [Case; 33] = [
         limits: Limits {
             frames: 48,
             winds: 16,
-            names: 7,
+            frame_names: 7,
+            wind_names: 7,
         },
         calls: &[
             Call::Run(5, 12),
@@ -583,7 +679,8 @@ pub const CASES: [Case; 33] = [
         limits: Limits {
             frames: 48,
             winds: 16,
-            names: 7,
+            frame_names: 7,
+            wind_names: 7,
         },
         calls: &[
             Call::Run(5, 12),
@@ -603,7 +700,8 @@ pub const CASES: [Case; 33] = [
         limits: Limits {
             frames: 48,
             winds: 16,
-            names: 7,
+            frame_names: 7,
+            wind_names: 7,
         },
         calls: &[
             Call::Run(5, 12),
@@ -623,7 +721,8 @@ pub const CASES: [Case; 33] = [
         limits: Limits {
             frames: 48,
             winds: 16,
-            names: 7,
+            frame_names: 7,
+            wind_names: 7,
         },
         calls: &[
             Call::Run(5, 12),
@@ -643,7 +742,8 @@ pub const CASES: [Case; 33] = [
         limits: Limits {
             frames: 48,
             winds: 16,
-            names: 7,
+            frame_names: 7,
+            wind_names: 7,
         },
         calls: &[
             Call::Run(5, 12),
@@ -663,7 +763,8 @@ pub const CASES: [Case; 33] = [
         limits: Limits {
             frames: 48,
             winds: 16,
-            names: 2,
+            frame_names: 2,
+            wind_names: 2,
         },
         calls: &[
             Call::Run(5, 12),
@@ -683,7 +784,8 @@ pub const CASES: [Case; 33] = [
         limits: Limits {
             frames: 48,
             winds: 16,
-            names: 7,
+            frame_names: 7,
+            wind_names: 7,
         },
         calls: &[
             Call::Run(5, 12),
@@ -703,7 +805,8 @@ pub const CASES: [Case; 33] = [
         limits: Limits {
             frames: 48,
             winds: 16,
-            names: 7,
+            frame_names: 7,
+            wind_names: 7,
         },
         calls: &[
             Call::Run(5, 12),
@@ -723,7 +826,8 @@ pub const CASES: [Case; 33] = [
         limits: Limits {
             frames: 48,
             winds: 16,
-            names: 7,
+            frame_names: 7,
+            wind_names: 7,
         },
         calls: &[
             Call::Run(5, 12),
@@ -743,7 +847,8 @@ pub const CASES: [Case; 33] = [
         limits: Limits {
             frames: 48,
             winds: 16,
-            names: 7,
+            frame_names: 7,
+            wind_names: 7,
         },
         calls: &[
             Call::Run(5, 12),
@@ -763,7 +868,8 @@ pub const CASES: [Case; 33] = [
         limits: Limits {
             frames: 48,
             winds: 16,
-            names: 7,
+            frame_names: 7,
+            wind_names: 7,
         },
         calls: &[
             Call::Run(5, 12),
@@ -783,7 +889,8 @@ pub const CASES: [Case; 33] = [
         limits: Limits {
             frames: 48,
             winds: 4,
-            names: 7,
+            frame_names: 7,
+            wind_names: 7,
         },
         calls: &[
             Call::Run(5, 12),
@@ -803,7 +910,8 @@ pub const CASES: [Case; 33] = [
         limits: Limits {
             frames: 16,
             winds: 8,
-            names: 7,
+            frame_names: 7,
+            wind_names: 7,
         },
         calls: &[
             Call::Run(5, 12),
@@ -823,7 +931,8 @@ pub const CASES: [Case; 33] = [
         limits: Limits {
             frames: 48,
             winds: 16,
-            names: 7,
+            frame_names: 7,
+            wind_names: 7,
         },
         calls: &[
             Call::Run(5, 12),
@@ -843,7 +952,8 @@ pub const CASES: [Case; 33] = [
         limits: Limits {
             frames: 48,
             winds: 16,
-            names: 7,
+            frame_names: 7,
+            wind_names: 7,
         },
         calls: &[
             Call::Run(5, 12),
@@ -863,7 +973,8 @@ pub const CASES: [Case; 33] = [
         limits: Limits {
             frames: 48,
             winds: 16,
-            names: 7,
+            frame_names: 7,
+            wind_names: 7,
         },
         calls: &[
             Call::Run(5, 12),
@@ -883,7 +994,8 @@ pub const CASES: [Case; 33] = [
         limits: Limits {
             frames: 48,
             winds: 16,
-            names: 7,
+            frame_names: 7,
+            wind_names: 7,
         },
         calls: &[
             Call::Run(5, 12),
@@ -903,7 +1015,8 @@ pub const CASES: [Case; 33] = [
         limits: Limits {
             frames: 48,
             winds: 16,
-            names: 7,
+            frame_names: 7,
+            wind_names: 7,
         },
         calls: &[
             Call::Run(5, 12),
@@ -923,7 +1036,8 @@ pub const CASES: [Case; 33] = [
         limits: Limits {
             frames: 48,
             winds: 16,
-            names: 7,
+            frame_names: 7,
+            wind_names: 7,
         },
         calls: &[
             Call::Run(5, 12),
@@ -943,7 +1057,8 @@ pub const CASES: [Case; 33] = [
         limits: Limits {
             frames: 48,
             winds: 16,
-            names: 7,
+            frame_names: 7,
+            wind_names: 7,
         },
         calls: &[
             Call::Run(5, 12),
@@ -963,7 +1078,8 @@ pub const CASES: [Case; 33] = [
         limits: Limits {
             frames: 48,
             winds: 16,
-            names: 7,
+            frame_names: 7,
+            wind_names: 7,
         },
         calls: &[
             Call::Run(5, 12),
@@ -983,7 +1099,8 @@ pub const CASES: [Case; 33] = [
         limits: Limits {
             frames: 48,
             winds: 16,
-            names: 7,
+            frame_names: 7,
+            wind_names: 7,
         },
         calls: &[
             Call::Run(5, 12),
@@ -1003,7 +1120,8 @@ pub const CASES: [Case; 33] = [
         limits: Limits {
             frames: 48,
             winds: 16,
-            names: 7,
+            frame_names: 7,
+            wind_names: 7,
         },
         calls: &[
             Call::Run(5, 12),

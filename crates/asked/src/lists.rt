@@ -2,7 +2,7 @@
 
 use crate::call::{Call, Case, Limits};
 use crate::cases::CASES;
-use crate::runs::{ZEROS, ask, code, exchanges};
+use crate::runs::{NUMBERS, ask, code, exchanges};
 use crate::stores::{CopiedQuota, LinkedQuota, both_copied, both_linked};
 use crate::told::tell_all;
 use code::code::Code;
@@ -27,7 +27,7 @@ fn open<'a>(
 ) -> Result<(OnLinked<'a>, OnCopied<'a>), AllocError> {
     let first = both_linked(heap, limits)?;
     let second = both_copied(heap, limits)?;
-    Ok(two_runs(code, ZEROS, first, second, calls, others))
+    Ok(two_runs(code, NUMBERS, first, second, calls, others))
 }
 
 /// What a run tells that has answered a list, and is asked more.

@@ -1,7 +1,7 @@
 //! Runs to their end, in large portions and in small ones.
 
 use crate::cases::WHOLES;
-use crate::runs::{LARGEST, ZEROS, code, run_to_end};
+use crate::runs::{LARGEST, NUMBERS, code, run_to_end};
 use crate::stores::{USUAL, both_copied, both_linked};
 use code::code::Code;
 use run::run::Run;
@@ -24,7 +24,7 @@ fn tell<F: Store + Drop, W: Store + Drop>(
     parts: &[(u32, usize)],
     text: &mut String,
 ) -> Result<(), AllocError> {
-    let mut run = Run::open(code, ZEROS, frames, winds);
+    let mut run = Run::open(code, NUMBERS, frames, winds);
     run_to_end(&mut run, parts, text)
 }
 

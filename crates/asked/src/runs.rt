@@ -1,7 +1,7 @@
 //! What is done with runs.
 
 use crate::call::Call;
-use crate::told::{tell_all, tell_lines, tell_tally};
+use crate::told::{OLD, tell_all, tell_lines, tell_tally};
 use code::code::Code;
 use run::exchange::Exchange;
 use run::run::Run;
@@ -11,7 +11,10 @@ use std::alloc::{AllocError, Global};
 use store::store::Store;
 
 /// The numbers that each run begins with.
-pub const ZEROS: [i32; 32] = [0; 32];
+pub const NUMBERS: [i32; 32] = [
+    0, 0, 0, 0, 0, 0, 0, 0, 0, 0, 0, 0, 0, 0, 0, 0, 0, 0, 0, 0, 0, 0, 0, 0, 0, 0, 0, 0, 0, 0,
+    2147483647, -5,
+];
 
 /// The largest buffer of a run to the end.
 pub const LARGEST: usize = 4096;
@@ -30,7 +33,7 @@ fn exchange(heap: Global, call: &Call) -> Result<Exchange, AllocError> {
     Ok(match *call {
         Call::Run(budget, size) => Exchange::Run {
             budget,
-            buffer: vec![in heap; 0u8; size]?,
+            buffer: vec![in heap; OLD; size]?,
             answer: None,
         },
         Call::Tally => Exchange::Tally { answer: None },

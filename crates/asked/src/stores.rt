@@ -15,7 +15,8 @@ const DEPTH: u32 = 64;
 pub const USUAL: Limits = Limits {
     frames: 48,
     winds: 16,
-    names: 7,
+    frame_names: 7,
+    wind_names: 7,
 };
 
 /// A quota over linked frames: a level above the bottom.
@@ -40,8 +41,8 @@ pub fn both_linked(
     heap: Global,
     limits: &Limits,
 ) -> Result<(LinkedQuota, LinkedQuota), AllocError> {
-    let frames = linked(heap, limits.frames, limits.names)?;
-    let winds = linked(heap, limits.winds, limits.names)?;
+    let frames = linked(heap, limits.frames, limits.frame_names)?;
+    let winds = linked(heap, limits.winds, limits.wind_names)?;
     Ok((frames, winds))
 }
 
@@ -50,7 +51,7 @@ pub fn both_copied(
     heap: Global,
     limits: &Limits,
 ) -> Result<(CopiedQuota, CopiedQuota), AllocError> {
-    let frames = copied(heap, limits.frames, limits.names)?;
-    let winds = copied(heap, limits.winds, limits.names)?;
+    let frames = copied(heap, limits.frames, limits.frame_names)?;
+    let winds = copied(heap, limits.winds, limits.wind_names)?;
     Ok((frames, winds))
 }

@@ -8,6 +8,19 @@ use machine::tally::Tally;
 use run::exchange::Exchange;
 use std::alloc::AllocError;
 
+/// What stands in a buffer before a call.
+pub const OLD: u8 = 7;
+
+/// Tells if a byte was written beyond those that a call tells. The evaluator never has such a line.
+fn tell_rest(text: &mut String, buffer: &[u8], bytes: usize) -> Result<(), AllocError> {
+    for &b in buffer.iter().skip(bytes) {
+        if b != OLD {
+            writeln!(text, "written")?;
+        }
+    }
+    Ok(())
+}
+
 fn tell_progress(text: &mut String, progress: Progress, buffer: &[u8]) -> Result<(), AllocError> {
     let reason = progress.reason.number();
     write!(
@@ -76,7 +89,10 @@ fn tell(text: &mut String, exchange: &Exchange) -> Result<(), AllocError> {
             budget: _,
             buffer,
             answer: Some(answer),
-        } => tell_run(text, *answer, buffer),
+        } => {
+            tell_run(text, *answer, buffer)?;
+            tell_rest(text, buffer, answer.map_or(0, |progress| progress.bytes))
+        }
         Exchange::Tally {
             answer: Some(tally),
         } => tell_tally(text, tally),

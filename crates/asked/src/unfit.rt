@@ -1,7 +1,7 @@
 //! Runs on stores that are not empty or hold a name.
 
 use crate::call::Call;
-use crate::runs::{ZEROS, ask, code};
+use crate::runs::{NUMBERS, ask, code};
 use crate::stores::{USUAL, both_copied};
 use cell::cell::Cell;
 use cell::name::Name;
@@ -101,7 +101,7 @@ fn tells(heap: Global, in_frames: &Content, in_winds: &Content) -> Result<String
     let (mut frames, mut winds) = both_copied(heap, &USUAL)?;
     fill(&mut frames, in_frames);
     fill(&mut winds, in_winds);
-    let mut run = Run::open(&code, ZEROS, frames, winds);
+    let mut run = Run::open(&code, NUMBERS, frames, winds);
     let mut text = String::new(heap);
     ask(heap, &mut run, &CALLS, &mut text)?;
     Ok(text)
