@@ -4,14 +4,13 @@ use Rattle.std.proofs.lemmas.List.{append-nil, take_at, drop_at, length-drop}
 use Rattle.std.proofs.lemmas.Bool.{ltb-false, cond-true, cond-false}
 use Rattle.code.specs.declared.instruction.Instruction.{Instruction}
 use Rattle.machine.specs.declared.end.End.{End}
-use Rattle.machine.specs.declared.end.End.TheVariants.{UnfitStores}
 use Rattle.machine.specs.declared.reason.Reason.TheVariants.{BufferFull}
 use Rattle.machine.specs.declared.run_refusal.RunRefusal.{RunRefusal}
 use Rattle.machine.specs.declared.run_refusal.RunRefusal.TheVariants.{HasEnded, BudgetOutOfRange, BufferTooShort}
 use Rattle.machine.specs.State.{State, Limits, start}
 use Rattle.machine.specs.Step.{Outcome, went, finished, refused, step}
 use Rattle.machine.specs.Course.{Course, course, joined}
-use Rattle.machine.specs.Opening.{Run, both_fit, limits_of, started}
+use Rattle.machine.specs.Opening.{Run, both_fit, started}
 use Rattle.machine.specs.Calls.{Portion, closing, with_step, portion_by, portion, most_budget, least_buffer, Ran, accepted, declined, ran, tallied, looked, forced, Call, run, tally, look, force, Answer, told, answered, served, steps_in, output_in}
 use Rattle.laws.specs.Courses.{Level}
 use Rattle.laws.specs.Counts.{Conserved}

@@ -1,5 +1,5 @@
 -- Small pieces of code with lists of calls, and what each call tells: one table.
-use Rattle.std.specs.Prelude.{ℕ, ◌-◌, Bool, true, false, ◌&&◌, T, List, [], ◌∷◌, ◌++◌, map, take, replicate, ℤ, pos, negsuc, Some, None, Ok, Err, Option, Result, ◌==◌}
+use Rattle.std.specs.Prelude.{ℕ, Bool, true, false, ◌&&◌, T, List, [], ◌∷◌, map, take, replicate, pos, negsuc, Some, None, Ok, Err, Option, Result, ◌==◌}
 use Rattle.cell.specs.declared.address.Address.{Address}
 use Rattle.cell.specs.declared.cell.Cell.{Cell}
 use Rattle.cell.specs.Filled.{filled}

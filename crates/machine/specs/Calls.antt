@@ -55,11 +55,11 @@ abbrev pub portion : Limits → List Instruction → ℕ → ℕ → State → P
 portion l code zero room s = closing 0 BudgetUsed s None
 portion l code (suc n) room s = portion_by (step l code s) s room (portion l code n)
 
--- the largest budget of a run call, and the least buffer: the longest line has so many bytes
+-- the largest budget of a run call
 abbrev pub most_budget : ℕ
 most_budget = 1000000
 
--- the least buffer of a run call
+-- the least buffer of a run call: the longest line has so many bytes
 abbrev pub least_buffer : ℕ
 least_buffer = 12
 
@@ -67,7 +67,7 @@ least_buffer = 12
 abbrev pub Ran : Type 0
 Ran = Result Progress RunRefusal × List ℕ × Run
 
--- a run that has come further
+-- the same run in another state, and with another end
 abbrev pub at : Run → State → Option End → Run
 at r s end = record { code = r.code; limits = r.limits; frames_below = r.frames_below; winds_below = r.winds_below; state = s; end = end }
 
@@ -91,12 +91,12 @@ ran r budget buffer =
     (cond (nat_lt (length buffer) least_buffer) (declined BufferTooShort r buffer)
     (accepted (portion r.limits r.code budget (length buffer) r.state) r buffer)))
 
--- the steps that a run call's answer tells, and the bytes; a refused one tells none
+-- the steps that a run call's answer tells; a refused one tells none
 abbrev pub steps_told : Result Progress RunRefusal → ℕ
 steps_told (Ok p) = p.steps
 steps_told (Err e) = 0
 
--- the bytes that it tells
+-- the bytes that it tells; a refused one tells none
 abbrev pub bytes_told : Result Progress RunRefusal → ℕ
 bytes_told (Ok p) = p.bytes
 bytes_told (Err e) = 0
@@ -183,7 +183,7 @@ abbrev pub served : Run → List Call → List Answer × Run
 served r [] = ([], r)
 served r (c ∷ cs) = answer_first (answered r c).0 (served (answered r c).1 cs)
 
--- the steps that an answer tells, and the bytes that its call wrote
+-- the steps that an answer tells
 abbrev pub steps_in : Answer → ℕ
 steps_in (to_run r buffer) = steps_told r
 steps_in (to_tally t) = 0

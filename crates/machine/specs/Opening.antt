@@ -7,7 +7,7 @@ use Rattle.machine.specs.declared.end.End.{End}
 use Rattle.machine.specs.declared.end.End.TheVariants.{UnfitStores}
 use Rattle.machine.specs.State.{State, Limits, start}
 
--- what a run asks of a store that it is opened on
+-- what a store offers a run that is opened on it
 pub record Offer : Type 0 where
   -- its current list, the bottom first, and how many names it holds
   pub cells : List Cell
