@@ -32,7 +32,7 @@ fn print_both<W: Write>(out: &mut W, code: &Code, alloc: Global) -> io::Result<(
 }
 
 /// Prints what a sheet comes to.
-fn answer<W: Write>(out: &mut W, sheet: &[u8], alloc: Global) -> io::Result<()>
+fn print_outcome<W: Write>(out: &mut W, sheet: &[u8], alloc: Global) -> io::Result<()>
     ensures { OnOk result (Appends (W.contents out.old) (W.contents out.new) (output sheet.now)) }
 {
     let mut code = Code::empty();
@@ -58,9 +58,10 @@ fn answer_input<W: Write, R: Read + Drop>(out: &mut W, input: R, alloc: Global) 
     ensures { OnOk result (IfSome (R.remaining input) (λ all. Appends (W.contents out.old) (W.contents out.new) (output all))) }
 {
     let sheet = read_sheet(input, alloc)?;
-    answer(out, &sheet, alloc)
+    print_outcome(out, &sheet, alloc)
 }
 
+/// Runs the program on standard input and output.
 fn main(rt: HostRuntime) -> anyhow::Result<()> {
     let mut out = BufWriter::new(rt.alloc(), rt.stdout())?;
     answer_input(&mut out, rt.stdin(), rt.alloc())?;
