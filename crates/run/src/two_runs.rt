@@ -31,7 +31,7 @@ fn open_and_serve<'a, F: Store, W: Store>(
 
 /// Opens two runs of a code with the same numbers, each on stores of its own, and carries out a list on each. Each run gives what the
 /// machine's definition says. Where both pairs of stores are fit, the two agree: at equal step counts they have printed the same bytes
-/// and tell the same, whatever the stores and the lists are. A run on stores that are not fit ends with 43 at once.
+/// and tell the same figures and cells, whatever the stores and the lists are. A run on stores that are not fit has ended with 43 at once.
 pub fn two_runs<'a, F: Store, W: Store, G: Store, V: Store>(
     code: &'a Code,
     numbers: [i32; GLOBALS],
