@@ -6,12 +6,13 @@ ghost use Rattle.hathrelig.specs.Output.{empty_store, answers_of};
 use crate::calls::calls;
 use crate::stores::{layered_stores, linked_stores};
 use code::code::Code;
+use code::global::GLOBALS;
 use run::exchange::Exchange;
 use run::two_runs::two_runs;
 use std::alloc::{AllocError, Global};
 
 /// What the globals of a run begin with.
-const ZEROS: [i32; 32] = [0; 32];
+const ZEROS: [i32; GLOBALS as usize] = [0; GLOBALS as usize];
 
 /// What two runs were asked, with their answers.
 #[derive(Drop)]

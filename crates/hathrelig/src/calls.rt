@@ -3,17 +3,20 @@ ghost use Rattle.std.specs.Prelude.{◌≡◌, map, IfOk};
 ghost use Rattle.run.specs.Serving.{asked};
 ghost use Rattle.hathrelig.specs.Output.{run_call_asked, calls_asked};
 
+use run::admission::LEAST_BUFFER;
 use run::exchange::Exchange;
 use std::alloc::{AllocError, Global};
 
-/// A run is given up after so many calls, each of them with so many steps.
+/// How many run calls are made: a run that is still going then is given up.
 const CALLS: usize = 100;
 
+/// How many steps each may make.
 const BUDGET: u32 = 1000;
 
-/// The longest line has 12 bytes, so no call stops for its buffer.
-const BUFFER: usize = 12000;
+/// How many bytes each may print: a step prints a line at most, so no call stops for its buffer.
+const BUFFER: usize = LEAST_BUFFER * BUDGET as usize;
 
+/// A run call with these limits.
 fn run_call(alloc: Global) -> Result<Exchange, AllocError>
     ensures { IfOk result (λ exchange. asked exchange ≡ run_call_asked) }
 {

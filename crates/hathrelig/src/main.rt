@@ -32,16 +32,14 @@ fn print_both<W: Write>(out: &mut W, code: &Code, alloc: Global) -> io::Result<(
 }
 
 /// Prints what a sheet comes to.
-fn answer<W: Write>(out: &mut W, sheet: &[u8], alloc: Global) -> io::Result<()>
+fn print_outcome<W: Write>(out: &mut W, sheet: &[u8], alloc: Global) -> io::Result<()>
     ensures { OnOk result (Appends (W.contents out.old) (W.contents out.new) (output sheet.now)) }
 {
     let mut code = Code::empty();
-    let answer = read(&mut code, sheet);
-    let Ok(()) = answer else {
-        let refusal = answer.unwrap_err();
-        return writeln!(out, "{refusal}");
-    };
-    print_both(out, &code, alloc)
+    match read(&mut code, sheet) {
+        Ok(()) => print_both(out, &code, alloc),
+        Err(refusal) => writeln!(out, "{refusal}"),
+    }
 }
 
 /// Reads as much of a sheet as tells whether it is too long.
@@ -58,9 +56,10 @@ fn answer_input<W: Write, R: Read + Drop>(out: &mut W, input: R, alloc: Global) 
     ensures { OnOk result (IfSome (R.remaining input) (λ all. Appends (W.contents out.old) (W.contents out.new) (output all))) }
 {
     let sheet = read_sheet(input, alloc)?;
-    answer(out, &sheet, alloc)
+    print_outcome(out, &sheet, alloc)
 }
 
+/// Runs the program on standard input and output.
 fn main(rt: HostRuntime) -> anyhow::Result<()> {
     let mut out = BufWriter::new(rt.alloc(), rt.stdout())?;
     answer_input(&mut out, rt.stdin(), rt.alloc())?;

@@ -21,7 +21,7 @@ fn print_end<W: Write>(out: &mut W, tally: &Tally) -> io::Result<()>
     }
 }
 
-/// Prints what a call was answered; one that was refused, since the run had ended, adds nothing.
+/// Prints what a run call wrote, or the last line for a tally. Nothing is printed of a look or a force, or of a call that was refused.
 fn print_answer<W: Write>(out: &mut W, call: &Exchange) -> io::Result<()>
     ensures { OnOk result (Appends (W.contents out.old) (W.contents out.new) (exchange_text call.now)) }
 {
@@ -34,7 +34,13 @@ fn print_answer<W: Write>(out: &mut W, call: &Exchange) -> io::Result<()>
         Exchange::Tally {
             answer: Some(tally),
         } => print_end(out, tally),
-        _ => Ok(()),
+        Exchange::Run {
+            answer: None | Some(Err(_)),
+            ..
+        }
+        | Exchange::Tally { answer: None }
+        | Exchange::Look { .. }
+        | Exchange::Force { .. } => Ok(()),
     }
 }
 

@@ -17,10 +17,11 @@ use linked::linked::Linked;
 use linked::node::Node;
 use std::alloc::{AllocError, Global};
 
-/// How deep the stores of frames are, and those of winds.
-const FRAMES: u32 = 48;
+/// How deep the stores of frames are.
+const FRAME_DEPTH: u32 = 48;
 
-const WINDS: u32 = 16;
+/// How deep those of winds are.
+const WIND_DEPTH: u32 = 16;
 
 /// How many names each store may hold.
 const NAMES: u32 = 7;
@@ -31,6 +32,7 @@ const QUOTA: u32 = 32;
 /// A copied stack with a cache over it, and a quota over both.
 pub type Layered = Quota<Cache<Copied>>;
 
+/// A store of linked frames, with nothing in it.
 fn linked(alloc: Global, depth: u32) -> Result<Linked, AllocError>
     requires { in_range depth 7 ≡ true }
     ensures { IfOk result (λ s. linked_meant s ≡ opened true depth 7) }
@@ -39,6 +41,7 @@ fn linked(alloc: Global, depth: u32) -> Result<Linked, AllocError>
     Ok(Linked::new(memory, depth, NAMES))
 }
 
+/// A copied stack with its layers, with nothing in it.
 fn layered(alloc: Global, depth: u32) -> Result<Layered, AllocError>
     requires { in_range depth 7 ≡ true }
     ensures { IfOk result (λ s. limited s.quota (topped s.below.cells.items (copied_meant s.below.below)) ≡ limited 32 (raised (opened true depth 7))) }
@@ -52,7 +55,7 @@ fn layered(alloc: Global, depth: u32) -> Result<Layered, AllocError>
 pub fn linked_stores(alloc: Global) -> Result<(Linked, Linked), AllocError>
     ensures { IfOk result (λ s. (offer_of (linked_meant s.0) ≡ empty_store 48 0) × (offer_of (linked_meant s.1) ≡ empty_store 16 0)) }
 {
-    Ok((linked(alloc, FRAMES)?, linked(alloc, WINDS)?))
+    Ok((linked(alloc, FRAME_DEPTH)?, linked(alloc, WIND_DEPTH)?))
 }
 
 /// Copied stacks with their layers, for frames and for winds.
@@ -60,5 +63,5 @@ pub fn layered_stores(alloc: Global) -> Result<(Layered, Layered), AllocError>
     ensures frames { IfOk result (λ s. offer_of (limited s.0.quota (topped s.0.below.cells.items (copied_meant s.0.below.below))) ≡ empty_store 32 2) }
     ensures winds { IfOk result (λ s. offer_of (limited s.1.quota (topped s.1.below.cells.items (copied_meant s.1.below.below))) ≡ empty_store 16 0) }
 {
-    Ok((layered(alloc, FRAMES)?, layered(alloc, WINDS)?))
+    Ok((layered(alloc, FRAME_DEPTH)?, layered(alloc, WIND_DEPTH)?))
 }

@@ -1,10 +1,10 @@
-//! Exchanges.
+//! A call on a run as a value, so that lists of calls can be handed over and their answers handed back.
 
 use cell::cell::Cell;
 use machine::index_refusal::IndexRefusal;
 use machine::progress::Progress;
 use machine::run_refusal::RunRefusal;
-use machine::tally::Tally as Figures;
+use machine::tally::Tally;
 
 /// A call on a run, with the answer to it once it is carried out.
 #[derive(Debug, Drop)]
@@ -16,7 +16,7 @@ pub enum Exchange {
         answer: Option<Result<Progress, RunRefusal>>,
     },
     Tally {
-        answer: Option<Figures>,
+        answer: Option<Tally>,
     },
     Look {
         index: u32,

@@ -1,4 +1,4 @@
-//! Runs.
+//! A run of a code on two stores, and the calls on it, each of which answers as the machine's definition says.
 ghost use Rattle.std.specs.Prelude.{◌≡◌, [], Some};
 ghost use Rattle.machine.specs.Opening.{opened, offer_of};
 ghost use Rattle.machine.specs.declared.end.End.TheVariants.{UnfitStores};

@@ -1,4 +1,4 @@
-//! Lists of exchanges carried out on a run.
+//! Carrying out a list of exchanges on a run.
 ghost use Rattle.std.specs.Prelude.{◌≡◌, map};
 ghost use Rattle.machine.specs.Calls.{served};
 ghost use Rattle.run.specs.Serving.{asked, answers_in, exchanged, serving};
@@ -7,7 +7,7 @@ use crate::exchange::Exchange;
 use crate::run::Run;
 use store::store::Store;
 
-/// Carries out one.
+/// Makes the call that an exchange asks, and puts the answer in its place.
 fn serve_one<F: Store, W: Store>(run: &mut Run<'_, F, W>, exchange: &mut Exchange)
     ensures { (exchange.new, run.new) ≡ exchanged run.old exchange.old }
 {

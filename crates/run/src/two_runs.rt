@@ -29,22 +29,23 @@ fn open_and_serve<'a, F: Store, W: Store>(
     run
 }
 
-/// Opens two runs of a code with the same numbers, each on stores of its own, and carries out a list on each. Whatever the stores and
-/// the lists are, each run gives what the machine's definition says, and at equal step counts the two tell the same.
+/// Opens two runs of a code with the same numbers, each on stores of its own, and carries out a list on each. Each run gives what the
+/// machine's definition says. Where both pairs of stores are fit, the two agree: at equal step counts they have printed the same bytes
+/// and tell the same figures and cells, whatever the stores and the lists are. A run on stores that are not fit has ended with 43 at once.
 pub fn two_runs<'a, F: Store, W: Store, G: Store, V: Store>(
     code: &'a Code,
     numbers: [i32; GLOBALS],
     first: (F, W),
     second: (G, V),
-    calls: &mut [Exchange],
-    others: &mut [Exchange],
+    first_calls: &mut [Exchange],
+    second_calls: &mut [Exchange],
 ) -> (Run<'a, F, W>, Run<'a, G, V>)
-    ensures first { (calls.new, result.0) ≡ serving (opened code.now numbers (offer_of (F.meaning first.0)) (offer_of (W.meaning first.1))) calls.old }
-    ensures second { (others.new, result.1) ≡ serving (opened code.now numbers (offer_of (G.meaning second.0)) (offer_of (V.meaning second.1))) others.old }
-    ensures agree { AgreeThroughout code.now numbers (transcript_of (offer_of (F.meaning first.0)) (offer_of (W.meaning first.1)) calls.old calls.new result.0) (transcript_of (offer_of (G.meaning second.0)) (offer_of (V.meaning second.1)) others.old others.new result.1) }
+    ensures first { (first_calls.new, result.0) ≡ serving (opened code.now numbers (offer_of (F.meaning first.0)) (offer_of (W.meaning first.1))) first_calls.old }
+    ensures second { (second_calls.new, result.1) ≡ serving (opened code.now numbers (offer_of (G.meaning second.0)) (offer_of (V.meaning second.1))) second_calls.old }
+    ensures agree { AgreeThroughout code.now numbers (transcript_of (offer_of (F.meaning first.0)) (offer_of (W.meaning first.1)) first_calls.old first_calls.new result.0) (transcript_of (offer_of (G.meaning second.0)) (offer_of (V.meaning second.1)) second_calls.old second_calls.new result.1) }
 {
     (
-        open_and_serve(code, numbers, first, calls),
-        open_and_serve(code, numbers, second, others),
+        open_and_serve(code, numbers, first, first_calls),
+        open_and_serve(code, numbers, second, second_calls),
     )
 }

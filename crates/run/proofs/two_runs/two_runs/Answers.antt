@@ -15,5 +15,5 @@ returns g c =
     record {
       first = one.whole;
       second = other.whole;
-      agree = two_runs_agree_throughout c.args.code.now c.args.numbers frames winds frames' winds' (map asked c.args.calls.now) (map asked c.args.others.now) (answers_in c.open_and_serve.new.exchanges, c.open_and_serve.result) (answers_in c.open_and_serve-2.new.exchanges, c.open_and_serve-2.result) one.answers other.answers;
+      agree = two_runs_agree_throughout c.args.code.now c.args.numbers frames winds frames' winds' (map asked c.args.first_calls.now) (map asked c.args.second_calls.now) (answers_in c.open_and_serve.new.exchanges, c.open_and_serve.result) (answers_in c.open_and_serve-2.new.exchanges, c.open_and_serve-2.result) one.answers other.answers;
     }
