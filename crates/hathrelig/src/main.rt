@@ -36,10 +36,12 @@ fn print_outcome<W: Write>(out: &mut W, sheet: &[u8], alloc: Global) -> io::Resu
     ensures { OnOk result (Appends (W.contents out.old) (W.contents out.new) (output sheet.now)) }
 {
     let mut code = Code::empty();
-    match read(&mut code, sheet) {
-        Ok(()) => print_both(out, &code, alloc),
-        Err(refusal) => writeln!(out, "{refusal}"),
-    }
+    let answer = read(&mut code, sheet);
+    let Ok(()) = answer else {
+        let refusal = answer.unwrap_err();
+        return writeln!(out, "{refusal}");
+    };
+    print_both(out, &code, alloc)
 }
 
 /// Reads as much of a sheet as tells whether it is too long.
