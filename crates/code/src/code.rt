@@ -1,5 +1,5 @@
 //! Code.
-ghost use Rattle.std.specs.Prelude.{◌≡◌, ◌≤◌, true, [], length, IfSome};
+ghost use Rattle.std.specs.Prelude.{◌≡◌, ◌<◌, ◌≤◌, true, [], length, IfSome};
 ghost use Rattle.std.specs.List.{slice_get};
 ghost use Rattle.code.specs.Fits.{fits, all_fit as each_fit};
 ghost use Rattle.code.specs.Listing.{accepted};
@@ -64,6 +64,7 @@ impl Code {
     /// The instruction at an address, if there is one.
     pub fn fetch(&self, at: Address) -> Option<Instruction>
         ensures value { result ≡ slice_get self.now at.0 }
+        ensures within { IfSome result (λ _. at.0 < CAPACITY) }
         ensures fit { IfSome result (λ i. fits (length self.now) i ≡ true) }
     {
         self.instructions.get(at.0 as usize).copied()

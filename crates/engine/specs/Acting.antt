@@ -2,7 +2,9 @@
 use Rattle.std.specs.Prelude.{ℕ, ◌+◌, min, Bool, true, false, cond, [], ◌∷◌, ◌++◌, reverse, length, ℤ, Some, None, Ok, Err, Option, Result, nat_le, nat_lt}
 use Rattle.cell.specs.declared.address.Address.{Address}
 use Rattle.cell.specs.declared.name.Name.{Name}
+use Rattle.cell.specs.declared.value.Value.TheVariants.{Continuation}
 use Rattle.cell.specs.declared.frame.Frame.{Frame}
+use Rattle.cell.specs.declared.frame.Frame.TheVariants.{Mark}
 use Rattle.cell.specs.declared.wind.Wind.{Wind}
 use Rattle.store.specs.declared.refused.Refused.{Refused}
 use Rattle.store.specs.Meaning.{Meaning, pushed, popped, restored, taken, released}
@@ -18,9 +20,11 @@ use Rattle.machine.specs.declared.wind_move.WindMove.{WindMove}
 use Rattle.machine.specs.declared.wind_move.WindMove.TheVariants.{Stay, Open, Reenter, Leave}
 use Rattle.machine.specs.declared.name_move.NameMove.{NameMove}
 use Rattle.machine.specs.declared.name_move.NameMove.TheVariants.{Keep as KeepNames, SaveMany, SaveOnce, Use, Forget}
-use Rattle.machine.specs.Acts.{Plan}
+use Rattle.machine.specs.declared.mode.Mode.TheVariants.{Going}
+use Rattle.machine.specs.Acts.{Plan, moves, writing, framing, naming, does}
 use Rattle.machine.specs.Admission.{growth}
 use Rattle.machine.specs.Apply.{marked_in}
+use Rattle.machine.specs.Going.{zeroth}
 use Rattle.machine.specs.Named.{without, changed_all}
 use Rattle.machine.specs.Opening.{most_held}
 use Rattle.machine.specs.StoreEnds.{frame_end, wind_end}
@@ -131,6 +135,14 @@ capture_room k p = frame_room k p then name_room
 -- the name that is made next
 abbrev pub fresh : Parts → Name
 fresh p = record { 0 = up p.counts.made }
+
+-- `cc` and `cc1` of a procedure
+abbrev pub capturing : NameMove → FrameMove → Parts → Address → Plan
+capturing save push p q = does (naming save (writing (ToRegister zeroth (Continuation (fresh p))) (framing push (moves (Going q)))))
+
+-- the Mark of the name that is made next
+abbrev pub fresh_mark : Parts → Frame
+fresh_mark p = Mark (fresh p)
 
 -- the wind that is entered next as a new one
 abbrev pub new_wind : Parts → Address → Address → Wind

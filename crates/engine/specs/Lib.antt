@@ -1,4 +1,3 @@
 pub mod Parts
 pub mod Acting
-pub mod Planning
-pub mod Advancing
+pub mod Tallies

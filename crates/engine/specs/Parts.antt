@@ -1,18 +1,20 @@
 -- What an engine is, part by part: what its two stores mean, read as frames and as winds, and its own words.
-use Rattle.std.specs.Prelude.{ℕ, ◌+◌, ◌%◌, ◌^◌, min, Bool, true, false, cond, List, reverse, slice_set}
+use Rattle.std.specs.Prelude.{ℕ, ◌+◌, ◌%◌, ◌^◌, min, Bool, true, false, cond, List, [], map, replicate, reverse, slice_set, ℤ}
 use Rattle.cell.specs.declared.address.Address.{Address}
 use Rattle.cell.specs.declared.value.Value.{Value}
+use Rattle.cell.specs.declared.value.Value.TheVariants.{Empty, Number}
 use Rattle.cell.specs.declared.frame.Frame.{Frame}
 use Rattle.cell.specs.declared.wind.Wind.{Wind}
 use Rattle.store.specs.Meaning.{Meaning, Held}
 use Rattle.code.specs.declared.register.Register.{Register}
 use Rattle.code.specs.declared.global.Global.{Global}
 use Rattle.machine.specs.declared.mode.Mode.{Mode}
+use Rattle.machine.specs.declared.mode.Mode.TheVariants.{Going}
 use Rattle.machine.specs.declared.wind_move.WindMove.{WindMove}
 use Rattle.machine.specs.declared.wind_move.WindMove.TheVariants.{Stay, Open, Reenter, Leave}
 use Rattle.machine.specs.declared.name_move.NameMove.{NameMove}
 use Rattle.machine.specs.declared.name_move.NameMove.TheVariants.{Keep as KeepNames, SaveMany, SaveOnce, Use, Forget}
-use Rattle.machine.specs.State.{State, Capture, Counts, Limits}
+use Rattle.machine.specs.State.{State, Capture, Counts, Limits, no_counts, first}
 use Rattle.machine.specs.Apply.{trying}
 use Rattle.machine.specs.Opening.{most_held}
 use Rattle.held.specs.declared.held_row.HeldRow.{HeldRow}
@@ -88,6 +90,19 @@ with_register p r v = record { registers = slice_set p.registers r.0 v; globals 
 -- with a value in a global
 abbrev pub with_global : Parts → Global → Value → Parts
 with_global p g v = record { registers = p.registers; globals = slice_set p.globals g.0 v; frames = p.frames; winds = p.winds; rows = p.rows; mode = p.mode; tried = p.tried; counts = p.counts }
+
+-- the parts of an engine at its start, given the numbers of its globals and what its stores mean
+abbrev pub starting : List ℤ → Meaning Frame → Meaning Wind → Parts
+starting numbers frames winds = record {
+  registers = replicate 8 Empty;
+  globals = map Number numbers;
+  frames = frames;
+  winds = winds;
+  rows = [];
+  mode = Going first;
+  tried = first;
+  counts = no_counts;
+}
 
 -- a count that goes up by one in a word; no count of a run comes to the end of its word
 abbrev pub up : ℕ → ℕ

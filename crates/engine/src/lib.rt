@@ -1,11 +1,9 @@
-//! The acts of a step carried out on two stores and on a run's own words. What is said here of each is said over the parts of
-//! an engine as they are (`specs/Parts.antt`): what its stores mean, the rows of its held names, its words. The step itself, and
-//! steps in a row with their lines, are defined in `specs/` and not written yet; that all this is the machine's step is not proved.
-//! It rests on `cell`, `store`, `held`, `printer` and `code`, on the definitions of `machine`, and on one of `laws`.
+//! A machine's state with its frames and winds in two stores, and the acts that change it there. What is said here of each act is
+//! said over the parts of an engine as they are (`specs/Parts.antt`): what its stores mean, the rows of its held names, its own words.
+//! Which act a step is, another crate says; and that these are the machine's is another crate's theorem.
+//! It rests on `cell`, `store`, `held` and `code`, on the definitions of `machine`, and on one of `laws`.
 #![tactic(auto)]
 
 pub mod counters;
 pub mod engine;
 pub mod step;
-pub mod stopped;
-pub mod turn;

@@ -14,13 +14,18 @@ pub fn common<W: Store>(winds: &Typed<W, Wind>, name: Name) -> Result<u32, Refus
     ensures { result ≡ refused_as refused_of (common_with winds.now.list name.0) }
 {
     let shorter = winds.len().min(winds.saved_len(name)?);
+    let mut index = 0;
     // By index, since a store answers so.
-    for index in 0..shorter {
+    let common = loop {
+        if index >= shorter {
+            break index;
+        }
         let here = winds.at(index)?;
         let there = winds.saved_at(name, index)?;
         if here.number != there.number {
-            return Ok(index);
+            break index;
         }
-    }
-    Ok(shorter)
+        index += 1;
+    };
+    Ok(common)
 }

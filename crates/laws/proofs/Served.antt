@@ -4,14 +4,13 @@ use Rattle.std.proofs.lemmas.List.{append-nil, take_at, drop_at, length-drop}
 use Rattle.std.proofs.lemmas.Bool.{ltb-false, cond-true, cond-false}
 use Rattle.code.specs.declared.instruction.Instruction.{Instruction}
 use Rattle.machine.specs.declared.end.End.{End}
-use Rattle.machine.specs.declared.end.End.TheVariants.{UnfitStores}
 use Rattle.machine.specs.declared.reason.Reason.TheVariants.{BufferFull}
 use Rattle.machine.specs.declared.run_refusal.RunRefusal.{RunRefusal}
 use Rattle.machine.specs.declared.run_refusal.RunRefusal.TheVariants.{HasEnded, BudgetOutOfRange, BufferTooShort}
 use Rattle.machine.specs.State.{State, Limits, start}
 use Rattle.machine.specs.Step.{Outcome, went, finished, refused, step}
 use Rattle.machine.specs.Course.{Course, course, joined}
-use Rattle.machine.specs.Opening.{Run, both_fit, limits_of, started}
+use Rattle.machine.specs.Opening.{Run, both_fit, started}
 use Rattle.machine.specs.Calls.{Portion, closing, with_step, portion_by, portion, most_budget, least_buffer, Ran, accepted, declined, ran, tallied, looked, forced, Call, run, tally, look, force, Answer, told, answered, served, steps_in, output_in}
 use Rattle.laws.specs.Courses.{Level}
 use Rattle.laws.specs.Counts.{Conserved}
@@ -117,7 +116,7 @@ module _ (l : Limits) (code : List Instruction) where
   module _ (s₀ : State) where
     -- a run that stands so
     abbrev at : State → Option End → Run
-    at s end = record { code = code; limits = l; state = s; end = end }
+    at s end = record { code = code; limits = l; frames_below = []; winds_below = []; state = s; end = end }
 
     -- a call was answered, or a list of calls
     pub record After (n : ℕ) (out : List ℕ) (r : Run) : Type 0 where
@@ -223,12 +222,13 @@ module _ (code : List Instruction) (numbers : List ℤ) where
       record {
         same_answers = λ e.
             let v : Level (course l code n s₀) (course m code j s₀) = same_count l m code n j s₀ (a.steps ∙ e ∙ sym b.steps) in
-            let s : x.1.state ≡ y.1.state = ap (λ (r : Run). r.state) h.is ∙ sym a.state ∙ v.state ∙ b.state ∙ sym (ap (λ (r : Run). r.state) k.is) in
+            let t : h.state ≡ k.state = sym a.state ∙ v.state ∙ b.state in
+            let s : x.1.state ≡ y.1.state = ap (λ (r : Run). r.state) h.is ∙ t ∙ sym (ap (λ (r : Run). r.state) k.is) in
             record {
               output = sym a.output ∙ v.output ∙ b.output;
               tally = ap (λ t. tallied t None) s;
-              look = λ i. ap (λ t. looked t i) s;
-              force = λ i. ap (λ t. forced t i) s;
+              look = λ i. ap (λ r. looked r i) h.is ∙ ap (λ u. looked (at l code s₀ u None) i) t ∙ sym (ap (λ r. looked r i) k.is);
+              force = λ i. ap (λ r. forced r i) h.is ∙ ap (λ u. forced (at l code s₀ u None) i) t ∙ sym (ap (λ r. forced r i) k.is);
               state = s;
             };
         same_events = λ e. (same_count l m code (steps_of x) (steps_of y) s₀ ((one_course l x h).made ∙ e ∙ sym (one_course m y k).made)).trail;
@@ -276,7 +276,6 @@ ended_stays r e (force i ∷ cs) h = idle-first r (answered r (force i)) (served
 
 pub opening_decides : OpeningDecides
 opening_decides = record {
-  fit = λ code numbers frames winds h.
-      ap (λ end. record { code = code; limits = limits_of frames winds; state = start numbers; end = end }) (cond-true (both_fit frames winds) None (Some UnfitStores) h);
-  unfit = λ code numbers frames winds h. cond-false (both_fit frames winds) None (Some UnfitStores) h;
+  fit = λ code numbers frames winds h. cond-true (both_fit frames winds) _ _ h;
+  unfit = λ code numbers frames winds h. ap (λ (r : Run). r.end) (cond-false (both_fit frames winds) _ _ h);
 }

@@ -1,13 +1,16 @@
 -- Two runs, at every two moments.
-use Rattle.std.proofs.Common.{◌≡◌, ℕ, zero, suc, Bool, true, false, List, [], ◌∷◌, take, ℤ, Some, sym, refl, ap, ◌∙◌, subst, subst₂}
+use Rattle.std.proofs.Common.{◌≡◌, ℕ, zero, suc, Bool, true, false, List, [], ◌∷◌, length, take, ℤ, Some, None, Option, sym, refl, ap, ◌∙◌, subst, subst₂}
+use Rattle.std.proofs.lemmas.Bool.{cond-false}
 use Rattle.std.specs.List.{slice_get}
+use Rattle.std.specs.Option.{option_map}
+use Rattle.std.proofs.Math.Seq.{take-length}
 use Rattle.code.specs.declared.instruction.Instruction.{Instruction}
 use Rattle.machine.specs.declared.end.End.{End}
 use Rattle.machine.specs.declared.end.End.TheVariants.{UnfitStores}
 use Rattle.machine.specs.declared.tally.Tally.{Tally}
-use Rattle.machine.specs.State.{Limits}
-use Rattle.machine.specs.Opening.{Offer, Run, both_fit, limits_of, started, opened}
-use Rattle.machine.specs.Calls.{Call, run, tally, look, force, Answer, to_run, to_tally, to_look, to_force, tallied, answered, served}
+use Rattle.machine.specs.State.{State, Limits}
+use Rattle.machine.specs.Opening.{Offer, Run, both_fit, limits_of, started, unfit, opened}
+use Rattle.machine.specs.Calls.{Call, run, tally, look, force, Answer, to_run, to_tally, to_look, to_force, tallied, ending, answered, served}
 use Rattle.laws.specs.Limits.{IsLimit}
 use Rattle.laws.specs.Counts.{Conserved}
 use Rattle.laws.specs.Calls.{Served, steps_of, Idle, OneCourse, SameAnswers, Agree}
@@ -44,6 +47,11 @@ tally-at r (c ∷ cs) zero t h =
     let i : (answered r c).0 ≡ to_tally t = cc in
     sym (ap (λ a. tally_in a (tallied r.state r.end)) i) ∙ own_tally r c
 tally-at r (c ∷ cs) (suc i) t h = tally-at (answered r c).1 cs i t h
+
+-- an end is told just if there is one
+end-told : (end : Option End) (s : State) → option_map (λ e. e.end) (ending end s) ≡ end
+end-told None s = refl
+end-told (Some e) s = refl
 
 -- Ends.
 
@@ -86,18 +94,21 @@ module _ (code : List Instruction) (numbers : List ℤ) where
         go true h = let c = one_course i h in (c.told, c.conserved)
         go false h =
             let d = idle i h in
-            rw (d.run, d.steps) (refl, record { names = refl; winds = refl })
+            rw (d.run, d.steps, cond-false (both_fit frames winds) (started code numbers (limits_of frames winds)) (unfit code frames winds) h)
+            (refl, record { names = refl; winds = refl })
 
     pub as_defined : AsDefined code numbers (defined frames winds calls)
     as_defined = record {
       answers = refl;
+      last_moment = sym (moment_is (length calls)) ∙ ap (served r) (take-length calls);
       from_limits = opening_decides.fit code numbers frames winds;
       one_course = λ h i. one_course i h;
       ended_at_once = opening_decides.unfit code numbers frames winds;
       idle = λ h i. idle i h;
       tallies = λ i t h.
           let s = standing i in
-          subst (RightTally (steps_of (at-moment i))) (sym (tally-at r calls i t h)) (record { steps_told = s.0; names = s.1.names; winds = s.1.winds });
+          subst (RightTally (at-moment i)) (sym (tally-at r calls i t h))
+          (record { steps_told = s.0; names = s.1.names; winds = s.1.winds; end_told = end-told (at-moment i).1.end (at-moment i).1.state });
     }
 
   -- Two runs.

@@ -18,7 +18,7 @@ use Rattle.laws.specs.Counts.{Conserved, Balanced}
 abbrev pub Served : Type 0
 Served = List Answer × Run
 
--- its step count and its joined output
+-- its step count
 abbrev pub steps_of : Served → ℕ
 steps_of x = step_count x.0
 
@@ -26,8 +26,8 @@ steps_of x = step_count x.0
 abbrev pub output_of : Served → List ℕ
 output_of x = joined_output x.0
 
--- a refused run call leaves all as it was; an accepted one makes no more steps than its budget, and changes no byte of its
--- buffer but the first ones, as many as it tells
+-- a run call makes no more steps than its budget, and changes no byte of its buffer but the first ones, as many as it tells: none
+-- if it is refused
 pub record BufferKept (budget : ℕ) (buffer : List ℕ) (x : Ran) : Type 0 where
   pub size : length x.1 ≡ length buffer
   pub rest : drop (bytes_told x.0) x.1 ≡ drop (bytes_told x.0) buffer
@@ -63,7 +63,8 @@ abbrev pub InOrder : Type 0
 InOrder = (r : Run) (calls : List Call) (i : ℕ) → (served r (take i calls)).0 ≡ take i (served r calls).0
 
 -- what a list of calls has come to is one course of as many steps as its step count: it is in the state of that course, has
--- written what it wrote, and has ended exactly if the course has, or ends by the very next step
+-- written what it wrote, goes on only if that course does, and has ended only as the course ends that may make one step more (a
+-- step that is refused ends a run and is not counted)
 pub record OneCourse (code : List Instruction) (numbers : List ℤ) (l : Limits) (x : Served) : Type 0 where
   pub made : (course l code (steps_of x) (start numbers)).steps ≡ steps_of x
   pub output : (course l code (steps_of x) (start numbers)).output ≡ output_of x
@@ -89,8 +90,8 @@ CallsJoin =
 pub record SameAnswers (x y : Served) : Type 0 where
   pub output : output_of x ≡ output_of y
   pub tally : tallied x.1.state None ≡ tallied y.1.state None
-  pub look : (i : ℕ) → looked x.1.state i ≡ looked y.1.state i
-  pub force : (i : ℕ) → forced x.1.state i ≡ forced y.1.state i
+  pub look : (i : ℕ) → looked x.1 i ≡ looked y.1 i
+  pub force : (i : ℕ) → forced x.1 i ≡ forced y.1 i
   pub state : x.1.state ≡ y.1.state
 
 -- two runs of one code from equal numbers, the first under the limits l and the second under m

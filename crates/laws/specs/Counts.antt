@@ -61,7 +61,7 @@ module _ (s : State) where
 abbrev pub AllNamesMade : Type 0
 AllNamesMade = Always (λ l r. NamesMade r.state)
 
--- how many winds were entered in all, and how often that of a number
+-- how many winds were entered in all
 abbrev pub entering : List Event → ℕ
 entering [] = 0
 entering (enters n ∷ es) = suc (entering es)
@@ -73,7 +73,7 @@ entering_of k [] = 0
 entering_of k (enters n ∷ es) = cond (n.0 == k) 1 0 + entering_of k es
 entering_of k (leaves n ∷ es) = entering_of k es
 
--- how many winds were left in all, and how often that of a number
+-- how many winds were left in all
 abbrev pub leaving : List Event → ℕ
 leaving [] = 0
 leaving (enters n ∷ es) = leaving es

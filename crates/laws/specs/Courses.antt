@@ -41,6 +41,7 @@ EndsAlike =
     → Wider l m → (course l code n s).end ≡ Some e → (IsLimit e → ⊥) → (course m code k s).end ≡ Some d
     → (d ≡ e) × ((course m code k s).steps ≡ (course l code n s).steps)
 
+-- all of these
 pub record CoursesAgree : Type 0 where
   pub same_count : SameCount
   pub one_output : OneOutput

@@ -1,11 +1,8 @@
 -- Small pieces of code with lists of calls, and what each call tells: one table.
-use Rattle.std.specs.Prelude.{ℕ, ◌-◌, Bool, true, false, ◌&&◌, T, List, [], ◌∷◌, ◌++◌, map, take, replicate, ℤ, pos, negsuc, Some, None, Ok, Err, Option, Result, ◌==◌}
+use Rattle.std.specs.Prelude.{ℕ, Bool, true, false, ◌&&◌, T, List, [], ◌∷◌, map, take, replicate, pos, negsuc, Some, None, Ok, Err, Option, Result, ◌==◌}
 use Rattle.cell.specs.declared.address.Address.{Address}
-use Rattle.cell.specs.declared.value.Value.{Value}
-use Rattle.cell.specs.declared.value.Value.TheVariants.{Empty, Number, Procedure, Continuation}
-use Rattle.cell.specs.declared.frame.Frame.{Frame}
-use Rattle.cell.specs.declared.frame.Frame.TheVariants.{Saved, Back, Mark, In, Out, Hold, Toss, Enter}
-use Rattle.cell.specs.declared.wind.Wind.{Wind}
+use Rattle.cell.specs.declared.cell.Cell.{Cell}
+use Rattle.cell.specs.Filled.{filled}
 use Rattle.code.specs.declared.register.Register.{Register}
 use Rattle.code.specs.declared.global.Global.{Global}
 use Rattle.code.specs.declared.instruction.Instruction.{Instruction}
@@ -41,36 +38,17 @@ at i = record { 0 = i }
 
 -- an empty store with a depth limit, a held limit and a limit level
 abbrev offer : ℕ → ℕ → ℕ → Offer
-offer depth held level = record { length = 0; names = 0; depth_limit = depth; held_limit = held; limit_level = level }
+offer depth held level = record { cells = []; names = 0; depth_limit = depth; held_limit = held; limit_level = level }
+
+-- a store with cells in it, each of one word and zeros, and with room enough
+abbrev holding : List ℕ → Offer
+holding words = record { cells = map (λ w. filled (w ∷ [])) words; names = 0; depth_limit = 48; held_limit = 7; limit_level = 0 }
 
 -- a run call with a budget and a buffer of so many zeros
 abbrev called : ℕ → ℕ → Call
 called budget size = run budget (replicate size 0)
 
 -- the words of an answer
-
-abbrev signed_word : ℤ → ℕ
-signed_word (pos n) = n
-signed_word (negsuc n) = 4294967295 - n
-
-abbrev value_words : Value → List ℕ
-value_words Empty = 0 ∷ 0 ∷ []
-value_words (Number z) = 1 ∷ signed_word z ∷ []
-value_words (Procedure p) = 2 ∷ p.0 ∷ []
-value_words (Continuation n) = 3 ∷ n.0 ∷ []
-
-abbrev frame_words : Frame → List ℕ
-frame_words (Saved v) = 1 ∷ (value_words v ++ (0 ∷ []))
-frame_words (Back p) = 2 ∷ p.0 ∷ 0 ∷ 0 ∷ []
-frame_words (Mark n) = 3 ∷ n.0 ∷ 0 ∷ 0 ∷ []
-frame_words (In before body then) = 4 ∷ before.0 ∷ body.0 ∷ then.0 ∷ []
-frame_words Out = 5 ∷ 0 ∷ 0 ∷ 0 ∷ []
-frame_words (Hold v) = 6 ∷ (value_words v ++ (0 ∷ []))
-frame_words (Toss n v) = 7 ∷ n.0 ∷ value_words v
-frame_words (Enter n v) = 8 ∷ n.0 ∷ value_words v
-
-abbrev wind_words : Wind → List ℕ
-wind_words w = w.number.0 ∷ w.before.0 ∷ w.after.0 ∷ 0 ∷ []
 
 abbrev level_words : End → List ℕ
 level_words Finished = []
@@ -98,15 +76,15 @@ abbrev run_words : Result Progress RunRefusal → List ℕ → List ℕ
 run_words (Ok p) buffer = p.steps ∷ p.bytes ∷ reason_number p.reason ∷ take p.bytes buffer
 run_words (Err e) buffer = run_refusal_number e ∷ []
 
-abbrev index_words : {A : Type 0} → (A → List ℕ) → Result A IndexRefusal → List ℕ
-index_words words (Ok x) = words x
-index_words words (Err e) = index_refusal_number e ∷ []
+abbrev index_words : Result Cell IndexRefusal → List ℕ
+index_words (Ok c) = c.words
+index_words (Err e) = index_refusal_number e ∷ []
 
 abbrev words : Answer → List ℕ
 words (to_run answer buffer) = run_words answer buffer
 words (to_tally t) = tally_words t
-words (to_look answer) = index_words frame_words answer
-words (to_force answer) = index_words wind_words answer
+words (to_look answer) = index_words answer
+words (to_force answer) = index_words answer
 
 abbrev same : List ℕ → List ℕ → Bool
 same [] [] = true
@@ -257,6 +235,14 @@ examples =
       winds = offer 16 7 0;
       calls = called 1 12 ∷ tally ∷ [];
       told = (20 ∷ []) ∷ (0 ∷ 0 ∷ 0 ∷ 0 ∷ 0 ∷ 0 ∷ 0 ∷ 0 ∷ 43 ∷ 0 ∷ []) ∷ [];
+    }
+    -- stores that are not empty: look and force tell the cells that stand in them
+    ∷ record {
+      code = Stop ∷ [];
+      frames = holding (70 ∷ 71 ∷ []);
+      winds = holding (80 ∷ []);
+      calls = called 1 12 ∷ look 0 ∷ look 1 ∷ look 2 ∷ force 0 ∷ force 1 ∷ tally ∷ [];
+      told = (20 ∷ []) ∷ (70 ∷ 0 ∷ 0 ∷ 0 ∷ []) ∷ (71 ∷ 0 ∷ 0 ∷ 0 ∷ []) ∷ (23 ∷ []) ∷ (80 ∷ 0 ∷ 0 ∷ 0 ∷ []) ∷ (23 ∷ []) ∷ (0 ∷ 0 ∷ 0 ∷ 0 ∷ 0 ∷ 0 ∷ 0 ∷ 0 ∷ 43 ∷ 0 ∷ []) ∷ [];
     }
     ∷ []
 

@@ -50,6 +50,7 @@ WiderStep =
     (l m : Limits) (code : List Instruction) (s t : State) (b : List ℕ) (e : List Event)
     → Wider l m → step l code s ≡ went t b e → step m code s ≡ went t b e
 
+-- all of these
 pub record LimitsOnlyEnd : Type 0 where
   pub same_step : SameStep
   pub same_end : SameEnd

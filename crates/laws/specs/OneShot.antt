@@ -22,6 +22,7 @@ ComesBack s n c =
     ((fs : List Frame) × (s.mode ≡ Returning) × (s.frames ≡ Mark n ∷ fs))
     ⊎ ((v : Value) × (s.mode ≡ Throwing n v) × (wind_numbers s.winds ≡ wind_numbers c.winds))
 
+-- what comes back to a one-shot continuation uses it up for good
 pub record OneShotOnce : Type 0 where
   -- a step that comes back to a one-shot continuation releases it, whichever way it comes
   pub spent : (l m : Limits) (code other : List Instruction) (numbers : List ℤ) (k : ℕ) (n : Name) (c : Capture) (t : State) (b : List ℕ) (es : List Event)

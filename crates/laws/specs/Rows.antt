@@ -50,12 +50,15 @@ kept_name x = x.name
 abbrev pub flag_name : Flag → ℕ
 flag_name z = z.name
 
+-- what two stores keep and the flags, as captures
 abbrev pub captures : List (Kept Frame) → List (Kept Wind) → List Flag → List Capture
 captures = joined row
 
+-- they have the same names in the same order
 abbrev pub Together : List (Kept Frame) → List (Kept Wind) → List Flag → Type 0
 Together = Matched kept_name kept_name flag_name
 
+-- whatever is done to all three lists, they stay together, and the captures are those of the machine
 pub record RowsLaw (xs : List (Kept Frame)) (ys : List (Kept Wind)) (zs : List Flag) : Type 0 where
   -- a name is made
   pub pushed : (x : Kept Frame) (y : Kept Wind) (z : Flag) → x.name ≡ y.name → x.name ≡ z.name
@@ -74,5 +77,6 @@ pub record RowsLaw (xs : List (Kept Frame)) (ys : List (Kept Wind)) (zs : List F
   pub found : (n : ℕ) (x : Kept Frame) (y : Kept Wind) (z : Flag) → find kept_name xs n ≡ Some x → find kept_name ys n ≡ Some y → find flag_name zs n ≡ Some z
       → find capture_name (captures xs ys zs) n ≡ Some (row x y z)
 
+-- that of every three lists
 abbrev pub RowsJoined : Type 0
 RowsJoined = (xs : List (Kept Frame)) (ys : List (Kept Wind)) (zs : List Flag) → Together xs ys zs → RowsLaw xs ys zs

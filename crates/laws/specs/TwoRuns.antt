@@ -1,6 +1,7 @@
 -- The head promise: what two runs of one code from equal numbers have in common, on any four stores and whatever is asked of each.
-use Rattle.std.specs.Prelude.{◌≡◌, ℕ, ◌+◌, ◌≤◌, true, false, List, take, ℤ, Some, None}
+use Rattle.std.specs.Prelude.{◌≡◌, ℕ, ◌+◌, ◌≤◌, true, false, List, length, take, ℤ, Some, None}
 use Rattle.std.specs.List.{slice_get}
+use Rattle.std.specs.Option.{option_map}
 use Rattle.code.specs.declared.instruction.Instruction.{Instruction}
 use Rattle.machine.specs.declared.end.End.{End}
 use Rattle.machine.specs.declared.end.End.TheVariants.{UnfitStores}
@@ -36,11 +37,13 @@ OnUnfit a = both_fit a.frames a.winds ≡ false
 abbrev pub given_limits : Transcript → Limits
 given_limits a = limits_of a.frames a.winds
 
--- a tally is right: it tells the step count, and its figures of names and of winds add up
-pub record RightTally (steps : ℕ) (t : Tally) : Type 0 where
-  pub steps_told : t.steps ≡ steps
+-- a tally is right: it tells the step count, its figures of names and of winds add up, and it tells an end just if the run has
+-- ended, and with that one
+pub record RightTally (x : Served) (t : Tally) : Type 0 where
+  pub steps_told : t.steps ≡ steps_of x
   pub names : t.names.made ≡ t.names.used + t.names.forgotten + t.names.held
   pub winds : t.winds.entered ≡ t.winds.left + t.winds.current
+  pub end_told : option_map (λ e. e.end) t.ending ≡ x.1.end
 
 -- a tally, its end and last place aside
 abbrev pub figures : Tally → Tally
@@ -65,6 +68,8 @@ module _ (code : List Instruction) (numbers : List ℤ) where
   pub record AsDefined (a : Transcript) : Type 0 where
     -- its answers, the bytes of its buffers among them, are those of the definition
     pub answers : (a.answers, a.run) ≡ served (opening a) a.calls
+    -- the moment after its last call has all answers, and the run as it is in the end
+    pub last_moment : moment a (length a.calls) ≡ (a.answers, a.run)
     -- on fit stores they follow from code, numbers, and the stores' limits and levels alone
     pub from_limits : OnFit a → opening a ≡ started code numbers (given_limits a)
     -- and at every moment it has come to one course of as many steps as it told: with its bytes, its state and its end, with
@@ -75,7 +80,7 @@ module _ (code : List Instruction) (numbers : List ℤ) where
     -- and makes no step, writes no byte and stays so at every moment
     pub idle : OnUnfit a → (i : ℕ) → Idle (opening a) (moment a i)
     -- every tally that was given is right
-    pub tallies : (i : ℕ) (t : Tally) → slice_get a.answers i ≡ Some (to_tally t) → RightTally (steps_of (moment a i)) t
+    pub tallies : (i : ℕ) (t : Tally) → slice_get a.answers i ≡ Some (to_tally t) → RightTally (moment a i) t
 
   -- what two runs tell at moments of equal step counts
   pub record TellAlike (a b : Transcript) (i j : ℕ) : Type 0 where

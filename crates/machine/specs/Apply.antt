@@ -97,7 +97,7 @@ promoted fs cs = changed_all capture_name (marked_in fs) for_many cs
 abbrev pub capture : State → Bool → List Frame → Capture
 capture s once fs = record { name = next_name s; once = once; frames = fs; winds = s.winds }
 
--- the held names after a move, given the frames after theirs
+-- the held names after a move, given the frames after it; a one-shot name's own Mark, on top of them, is not saved
 abbrev pub held_after : State → List Frame → NameMove → List Capture
 held_after s fs KeepNames = s.held
 held_after s fs SaveMany = promoted fs s.held ++ (capture s false fs ∷ [])

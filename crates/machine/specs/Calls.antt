@@ -1,10 +1,13 @@
 -- What each call on a run answers and leaves.
-use Rattle.std.specs.Prelude.{ℕ, zero, suc, ◌+◌, ◌-◌, cond, ◌||◌, List, [], ◌∷◌, ◌++◌, reverse, length, take, drop, is_some, Some, None, Ok, Err, Option, Result, nat_lt}
+use Rattle.std.specs.Prelude.{ℕ, zero, suc, ◌+◌, ◌-◌, cond, ◌||◌, List, [], ◌∷◌, ◌++◌, map, reverse, length, take, drop, is_some, Some, None, Ok, Err, Option, Result, nat_lt}
 use Rattle.std.specs.List.{slice_get}
 use Rattle.std.specs.Option.{ok_or, option_map}
 use Rattle.cell.specs.declared.frame.Frame.{Frame}
 use Rattle.cell.specs.declared.wind.Wind.{Wind}
 use Rattle.cell.specs.declared.address.Address.{Address}
+use Rattle.cell.specs.declared.cell.Cell.{Cell}
+use Rattle.cell.specs.Filled.{filled}
+use Rattle.cell.specs.Elements.{frame_words, wind_words}
 use Rattle.code.specs.declared.instruction.Instruction.{Instruction}
 use Rattle.machine.specs.declared.end.End.{End}
 use Rattle.machine.specs.declared.end.End.TheVariants.{Finished}
@@ -52,11 +55,11 @@ abbrev pub portion : Limits → List Instruction → ℕ → ℕ → State → P
 portion l code zero room s = closing 0 BudgetUsed s None
 portion l code (suc n) room s = portion_by (step l code s) s room (portion l code n)
 
--- the largest budget of a run call, and the least buffer: the longest line has so many bytes
+-- the largest budget of a run call
 abbrev pub most_budget : ℕ
 most_budget = 1000000
 
--- the least buffer of a run call
+-- the least buffer of a run call: the longest line has so many bytes
 abbrev pub least_buffer : ℕ
 least_buffer = 12
 
@@ -64,9 +67,9 @@ least_buffer = 12
 abbrev pub Ran : Type 0
 Ran = Result Progress RunRefusal × List ℕ × Run
 
--- a run that has come further
+-- the same run in another state, and with another end
 abbrev pub at : Run → State → Option End → Run
-at r s end = record { code = r.code; limits = r.limits; state = s; end = end }
+at r s end = record { code = r.code; limits = r.limits; frames_below = r.frames_below; winds_below = r.winds_below; state = s; end = end }
 
 -- an accepted run call: the bytes stand from the buffer's start, and the rest of the buffer is as it was
 abbrev pub accepted : Portion → Run → List ℕ → Ran
@@ -88,12 +91,12 @@ ran r budget buffer =
     (cond (nat_lt (length buffer) least_buffer) (declined BufferTooShort r buffer)
     (accepted (portion r.limits r.code budget (length buffer) r.state) r buffer)))
 
--- the steps that a run call's answer tells, and the bytes; a refused one tells none
+-- the steps that a run call's answer tells; a refused one tells none
 abbrev pub steps_told : Result Progress RunRefusal → ℕ
 steps_told (Ok p) = p.steps
 steps_told (Err e) = 0
 
--- the bytes that it tells
+-- the bytes that it tells; a refused one tells none
 abbrev pub bytes_told : Result Progress RunRefusal → ℕ
 bytes_told (Ok p) = p.bytes
 bytes_told (Err e) = 0
@@ -118,13 +121,33 @@ wind_tally s = record { entered = s.counts.entered; left = s.counts.left; curren
 abbrev pub tallied : State → Option End → Tally
 tallied s end = record { steps = s.counts.steps; names = name_tally s; winds = wind_tally s; ending = ending end s }
 
--- what look answers: the frame at an index, from the bottom
-abbrev pub looked : State → ℕ → Result Frame IndexRefusal
-looked s i = ok_or (slice_get (reverse s.frames) i) Beyond
+-- the cell of a frame
+abbrev pub frame_cell : Frame → Cell
+frame_cell f = filled (frame_words f)
 
--- what force answers: the wind at an index, from the bottom
-abbrev pub forced : State → ℕ → Result Wind IndexRefusal
-forced s i = ok_or (slice_get (reverse s.winds) i) Beyond
+-- the cell of a wind
+abbrev pub wind_cell : Wind → Cell
+wind_cell w = filled (wind_words w)
+
+-- the cells in a run's frame store, the bottom first
+abbrev pub frame_cells : Run → List Cell
+frame_cells r = r.frames_below ++ map frame_cell (reverse r.state.frames)
+
+-- the cells in its wind store
+abbrev pub wind_cells : Run → List Cell
+wind_cells r = r.winds_below ++ map wind_cell (reverse r.state.winds)
+
+-- the cell at an index, if there is one
+abbrev pub cell_at : List Cell → ℕ → Result Cell IndexRefusal
+cell_at cells i = ok_or (slice_get cells i) Beyond
+
+-- what look answers: the cell at an index of the frame store
+abbrev pub looked : Run → ℕ → Result Cell IndexRefusal
+looked r i = cell_at (frame_cells r) i
+
+-- what force answers: the cell at an index of the wind store
+abbrev pub forced : Run → ℕ → Result Cell IndexRefusal
+forced r i = cell_at (wind_cells r) i
 
 -- a call: run has a budget and the bytes of its buffer, look and force an index
 pub data Call : Type 0 where
@@ -137,8 +160,8 @@ pub data Call : Type 0 where
 pub data Answer : Type 0 where
   to_run : Result Progress RunRefusal → List ℕ → Answer
   to_tally : Tally → Answer
-  to_look : Result Frame IndexRefusal → Answer
-  to_force : Result Wind IndexRefusal → Answer
+  to_look : Result Cell IndexRefusal → Answer
+  to_force : Result Cell IndexRefusal → Answer
 
 -- the answer to a run call, and the run after it
 abbrev pub told : Ran → Answer × Run
@@ -148,8 +171,8 @@ told r = (to_run r.0 r.1, r.2)
 abbrev pub answered : Run → Call → Answer × Run
 answered r (run budget buffer) = told (ran r budget buffer)
 answered r tally = (to_tally (tallied r.state r.end), r)
-answered r (look i) = (to_look (looked r.state i), r)
-answered r (force i) = (to_force (forced r.state i), r)
+answered r (look i) = (to_look (looked r i), r)
+answered r (force i) = (to_force (forced r i), r)
 
 -- the answer to one call before those to others
 abbrev pub answer_first : Answer → List Answer × Run → List Answer × Run
@@ -160,7 +183,7 @@ abbrev pub served : Run → List Call → List Answer × Run
 served r [] = ([], r)
 served r (c ∷ cs) = answer_first (answered r c).0 (served (answered r c).1 cs)
 
--- the steps that an answer tells, and the bytes that its call wrote
+-- the steps that an answer tells
 abbrev pub steps_in : Answer → ℕ
 steps_in (to_run r buffer) = steps_told r
 steps_in (to_tally t) = 0

@@ -63,7 +63,7 @@ pub record State : Type 0 where
   -- oldest first
   pub held : List Capture
   pub mode : Mode
-  -- where the last step was Going, of those that were and that were made
+  -- the address of the last step that was made while Going; 0 before there was one
   pub tried : Address
   pub counts : Counts
 

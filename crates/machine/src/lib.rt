@@ -1,6 +1,6 @@
 //! The register machine as a definition: what its state is, what each step does, how a run ends, and what each call on a
-//! run answers (`specs/`); here are the types that the definition shares with the code that carries it out, and the numbers
-//! of ends, reasons and refusals.
+//! run answers (`specs/`); here are the types that the definition is written with, which its callers see in part, and the
+//! numbers of ends, reasons and refusals.
 //! It rests on `cell`, for values, frames and winds, on `code`, for instructions, and on `store` only for how
 //! a store refuses; and on `thiserror` of the kit.
 #![tactic(auto)]

@@ -1,5 +1,5 @@
 //! Acts that no name is part of: writes, and moves of frames and winds.
-ghost use Rattle.std.specs.Prelude.{◌≡◌, Ok};
+ghost use Rattle.std.specs.Prelude.{◌≡◌, Ok, None};
 ghost use Rattle.machine.specs.Acts.{moves, writing, framing, winding, does};
 ghost use Rattle.machine.specs.declared.frame_move.FrameMove.TheVariants.{Push as PushOne, PushBoth, Pop as PopOne, Replace};
 ghost use Rattle.machine.specs.declared.mode.Mode.TheVariants.{Going as GoingAt};
@@ -25,7 +25,7 @@ use store::store::Store;
 
 impl<F: Store, W: Store> Engine<F, W> {
     /// Nothing but the mode changes.
-    pub(crate) fn go(&mut self, mode: Mode) -> Step
+    pub fn go(&mut self, mode: Mode) -> Step
         ensures { (Ok result, self.new) ≡ carried (does (moves mode)) self.old }
     {
         self.turn(mode, WindMove::Stay, NameMove::Keep);
@@ -33,7 +33,7 @@ impl<F: Store, W: Store> Engine<F, W> {
     }
 
     /// A register is written.
-    pub(crate) fn write(&mut self, register: Register, value: Value, mode: Mode) -> Step
+    pub fn write(&mut self, register: Register, value: Value, mode: Mode) -> Step
         ensures { (Ok result, self.new) ≡ carried (does (writing (ToRegister register value) (moves mode))) self.old }
     {
         self.set_register(register, value);
@@ -41,7 +41,7 @@ impl<F: Store, W: Store> Engine<F, W> {
     }
 
     /// A global is written.
-    pub(crate) fn write_global(&mut self, global: Global, value: Value, mode: Mode) -> Step
+    pub fn write_global(&mut self, global: Global, value: Value, mode: Mode) -> Step
         ensures { (Ok result, self.new) ≡ carried (does (writing (ToGlobal global value) (moves mode))) self.old }
     {
         self.set_global(global, value);
@@ -49,7 +49,7 @@ impl<F: Store, W: Store> Engine<F, W> {
     }
 
     /// A frame is pushed.
-    pub(crate) fn push(&mut self, frame: Frame, mode: Mode) -> Result<Step, End>
+    pub fn push(&mut self, frame: Frame, mode: Mode) -> Result<Step, End>
         ensures { (result, self.new) ≡ carried (does (framing (PushOne frame) (moves mode))) self.old }
     {
         self.push_frame(frame)?;
@@ -57,7 +57,7 @@ impl<F: Store, W: Store> Engine<F, W> {
     }
 
     /// Two frames are pushed, or none.
-    pub(crate) fn push_both(&mut self, first: Frame, second: Frame, mode: Mode) -> Result<Step, End>
+    pub fn push_both(&mut self, first: Frame, second: Frame, mode: Mode) -> Result<Step, End>
         ensures { (result, self.new) ≡ carried (does (framing (PushBoth first second) (moves mode))) self.old }
     {
         self.check_frames(2)?;
@@ -67,7 +67,7 @@ impl<F: Store, W: Store> Engine<F, W> {
     }
 
     /// The top frame is popped.
-    pub(crate) fn pop(&mut self, mode: Mode) -> Result<Step, End>
+    pub fn pop(&mut self, mode: Mode) -> Result<Step, End>
         ensures { (result, self.new) ≡ carried (does (framing PopOne (moves mode))) self.old }
     {
         self.pop_frame()?;
@@ -75,12 +75,7 @@ impl<F: Store, W: Store> Engine<F, W> {
     }
 
     /// The top frame is popped, and a register is written.
-    pub(crate) fn pop_into(
-        &mut self,
-        register: Register,
-        value: Value,
-        mode: Mode,
-    ) -> Result<Step, End>
+    pub fn pop_into(&mut self, register: Register, value: Value, mode: Mode) -> Result<Step, End>
         ensures { (result, self.new) ≡ carried (does (framing PopOne (writing (ToRegister register value) (moves mode)))) self.old }
     {
         self.pop_frame()?;
@@ -108,12 +103,7 @@ impl<F: Store, W: Store> Engine<F, W> {
     }
 
     /// A new wind is entered, and its body follows.
-    pub(crate) fn open_wind(
-        &mut self,
-        before: Address,
-        body: Address,
-        after: Address,
-    ) -> Result<Step, End>
+    pub fn open_wind(&mut self, before: Address, body: Address, after: Address) -> Result<Step, End>
         ensures { (result, self.new) ≡ carried (does (winding (Open before after) (framing (Replace Frame.Out) (moves (GoingAt body))))) self.old }
     {
         self.enter_new(before, after)?;
@@ -127,7 +117,7 @@ impl<F: Store, W: Store> Engine<F, W> {
     }
 
     /// A wind is left by its body, whose value waits, and its after follows.
-    pub(crate) fn close_wind(&mut self, value: Value, after: Address) -> Result<Step, End>
+    pub fn close_wind(&mut self, value: Value, after: Address) -> Result<Step, End>
         ensures { (result, self.new) ≡ carried (does (winding Leave (framing (Replace (Frame.Hold value)) (moves (GoingAt after))))) self.old }
     {
         self.replace_top(Frame::Hold(value))?;
@@ -135,7 +125,7 @@ impl<F: Store, W: Store> Engine<F, W> {
     }
 
     /// A wind is left by a throw, which waits in a frame, and its after follows.
-    pub(crate) fn throw_out(&mut self, toss: Frame, after: Address) -> Result<Step, End>
+    pub fn throw_out(&mut self, toss: Frame, after: Address) -> Result<Step, End>
         ensures { (result, self.new) ≡ carried (does (winding Leave (framing (PushOne toss) (moves (GoingAt after))))) self.old }
     {
         self.push_frame(toss)?;
@@ -152,12 +142,19 @@ impl<F: Store, W: Store> Engine<F, W> {
     }
 
     /// A saved wind is entered again, and the throw to it goes on.
-    pub(crate) fn reenter(&mut self, wind: Wind, mode: Mode) -> Result<Step, End>
+    pub fn reenter(&mut self, wind: Wind, mode: Mode) -> Result<Step, End>
         ensures { (result, self.new) ≡ carried (does (winding (Reenter wind) (framing PopOne (moves mode)))) self.old }
     {
         self.push_wind(wind)?;
         self.pop_frame()?;
         self.turn(mode, WindMove::Reenter(wind), NameMove::Keep);
         Ok(Step::Made)
+    }
+    /// The run ends well.
+    pub fn finish(&mut self) -> Step
+        ensures { (Ok result, self.new) ≡ carried (Ok None) self.old }
+    {
+        self.turn(self.mode, WindMove::Stay, NameMove::Keep);
+        Step::Finished
     }
 }

@@ -10,24 +10,19 @@ ghost use Rattle.machine.specs.declared.name_move.NameMove.TheVariants.{SaveMany
 ghost use Rattle.machine.specs.declared.wind_move.WindMove.TheVariants.{Stay};
 ghost use Rattle.machine.specs.declared.write.Write.TheVariants.{Register as ToRegister};
 ghost use Rattle.engine.specs.Parts.{turned, with_register};
-ghost use Rattle.engine.specs.Acting.{carried, carry_as};
-ghost use Rattle.engine.specs.Planning.{capturing, fresh_mark};
+ghost use Rattle.engine.specs.Acting.{carried, carry_as, capturing, fresh_mark};
 
-use crate::engine::Engine;
+use crate::engine::{Engine, ZEROTH};
 use crate::step::Step;
 use cell::address::Address;
 use cell::frame::Frame;
 use cell::name::Name;
 use cell::value::Value;
-use code::register::Register;
 use machine::end::End;
 use machine::mode::Mode;
 use machine::name_move::NameMove;
 use machine::wind_move::WindMove;
 use store::store::Store;
-
-/// The register that values are passed in.
-pub(crate) const ZEROTH: Register = Register(0);
 
 /// How many frames `cc` pushes.
 const FRAMES_FOR_MANY: u32 = 1;
@@ -56,7 +51,7 @@ impl<F: Store, W: Store> Engine<F, W> {
     }
 
     /// A continuation is captured for many throws, and the procedure follows.
-    pub(crate) fn capture_many(&mut self, back: Address, body: Address) -> Result<Step, End>
+    pub fn capture_many(&mut self, back: Address, body: Address) -> Result<Step, End>
         ensures { (result, self.new) ≡ carried (capturing SaveMany (Push (BackTo back)) self.old body) self.old }
     {
         let name = self.next_name();
@@ -77,7 +72,7 @@ impl<F: Store, W: Store> Engine<F, W> {
     }
 
     /// A continuation is captured for one throw, and the procedure follows.
-    pub(crate) fn capture_once(&mut self, back: Address, body: Address) -> Result<Step, End>
+    pub fn capture_once(&mut self, back: Address, body: Address) -> Result<Step, End>
         ensures { (result, self.new) ≡ carried (capturing SaveOnce (PushBoth (BackTo back) (fresh_mark self.old)) self.old body) self.old }
     {
         let name = self.next_name();
@@ -85,7 +80,7 @@ impl<F: Store, W: Store> Engine<F, W> {
     }
 
     /// A name is forgotten.
-    pub(crate) fn forget(&mut self, name: Name, mode: Mode) -> Result<Step, End>
+    pub fn forget(&mut self, name: Name, mode: Mode) -> Result<Step, End>
         ensures { (result, self.new) ≡ carried (does (naming (Forget name) (moves mode))) self.old }
     {
         self.release(name)?;
@@ -94,7 +89,7 @@ impl<F: Store, W: Store> Engine<F, W> {
     }
 
     /// The Mark of a name that serves for one throw is passed, which uses the name up.
-    pub(crate) fn pop_using(&mut self, name: Name) -> Result<Step, End>
+    pub fn pop_using(&mut self, name: Name) -> Result<Step, End>
         ensures { (result, self.new) ≡ carried (does (naming (Use name) (framing Pop (moves ReturningNow)))) self.old }
     {
         self.pop_frame()?;
@@ -104,7 +99,7 @@ impl<F: Store, W: Store> Engine<F, W> {
     }
 
     /// A throw comes to its end, and its name goes on being held.
-    pub(crate) fn land(&mut self, name: Name, value: Value) -> Result<Step, End>
+    pub fn land(&mut self, name: Name, value: Value) -> Result<Step, End>
         ensures { (result, self.new) ≡ carried (does (writing (ToRegister zeroth value) (framing (Restore name) (moves ReturningNow)))) self.old }
     {
         self.restore_frames(name)?;
@@ -120,7 +115,7 @@ impl<F: Store, W: Store> Engine<F, W> {
     }
 
     /// A throw comes to its end, which uses its name up.
-    pub(crate) fn land_using(&mut self, name: Name, value: Value) -> Result<Step, End>
+    pub fn land_using(&mut self, name: Name, value: Value) -> Result<Step, End>
         ensures { (result, self.new) ≡ carried (does (writing (ToRegister zeroth value) (naming (Use name) (framing (Restore name) (moves ReturningNow))))) self.old }
     {
         self.take_frames(name)?;

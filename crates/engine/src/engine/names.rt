@@ -1,13 +1,11 @@
 //! What names are made, used up and forgotten by: calls on both stores and on the rows.
 ghost use Rattle.std.specs.Prelude.{◌≡◌, true};
 ghost use Rattle.machine.specs.declared.frame_move.FrameMove.TheVariants.{Keep, Restore};
-ghost use Rattle.engine.specs.Acting.{restoring, taking, releasing_frames, releasing_winds, dropping, release as releasing, saving, adding, promoting, holding_many, holding_once, capture_room, fresh};
+ghost use Rattle.engine.specs.Acting.{restoring, taking, releasing_frames, release as releasing, saving, adding, promoting, holding_many, holding_once, capture_room, fresh};
 
 use crate::counters::up;
 use crate::engine::Engine;
-use cell::frame::Frame;
 use cell::name::Name;
-use cell::wind::Wind;
 use held::held_row::HeldRow;
 use held::save_both::save_both;
 use machine::end::End;

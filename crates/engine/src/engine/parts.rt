@@ -36,14 +36,14 @@ fn set_value(values: &mut [Value], index: usize, value: Value)
 
 impl<F: Store, W: Store> Engine<F, W> {
     /// What a register holds.
-    pub(crate) fn register(&self, register: Register) -> Value
+    pub fn register(&self, register: Register) -> Value
         ensures { result ≡ slice_index_or self.now.registers register.0 Empty }
     {
         value_at(&self.registers, register.0 as usize)
     }
 
     /// What a global holds.
-    pub(crate) fn global(&self, global: Global) -> Value
+    pub fn global(&self, global: Global) -> Value
         ensures { result ≡ slice_index_or self.now.globals global.0 Empty }
     {
         value_at(&self.globals, global.0 as usize)

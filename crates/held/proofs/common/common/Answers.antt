@@ -3,15 +3,6 @@ use Rattle.store.specs.Meaning.{saved_under}
 use Rattle.held.proofs.Beginnings.{or_empty, common_past, common_more, common_apart, common-told, length-told}
 use Rattle.held.proofs.common.common.Goals as goal
 
-pub returns-then-ne : goal.returns-then-ne
-returns-then-ne g c =
-    let m = c.args.winds.now.list in
-    let o = saved_under m.held c.args.name.0 in
-    let i = c.loop-index.index in
-    let differ : eqb c.in_ok-here.here.number.0 c.in_ok-there.there.number.0 ≡ false = search (rules, tests) in
-    let apart = common_apart m.current o i c.in_ok-here.here c.in_ok-there.there c.in_ok-here.ensures c.in_ok-there.ensures differ in
-    common-told m.current o c.in_ok-saved_len.field-0 i c.in_ok-saved_len.ensures (omega (arith, apart, c.loop-index.invariant))
-
 pub loop-index-preserved : goal.loop-index-preserved
 loop-index-preserved g c =
     let m = c.args.winds.now.list in
@@ -21,12 +12,20 @@ loop-index-preserved g c =
     let more = common_more m.current o i c.in_ok-here.here c.in_ok-there.there c.in_ok-here.ensures c.in_ok-there.ensures same in
     omega (arith, more, c.loop-index.invariant)
 
-pub returns : goal.returns
-returns g c =
+pub returns-then-index-shorter : goal.returns-then-index-shorter
+returns-then-index-shorter g c =
     let m = c.args.winds.now.list in
     let o = saved_under m.held c.args.name.0 in
-    let shorter = c.min-shorter.result in
+    let i = c.loop-index.index in
     let long = length-told o c.in_ok-saved_len.field-0 c.in_ok-saved_len.ensures in
-    let at : c.loop-index.index ≡ shorter = omega arith in
-    let past = common_past c.loop-index.index m.current (or_empty o) (omega (arith, long, c.len.ensures, c.min-shorter.ensures)) in
-    common-told m.current o c.in_ok-saved_len.field-0 shorter c.in_ok-saved_len.ensures (omega (arith, past, at, c.loop-index.invariant))
+    let past = common_past i m.current (or_empty o) (omega (arith, long, c.len.ensures, c.min-shorter.ensures)) in
+    common-told m.current o c.in_ok-saved_len.field-0 i c.in_ok-saved_len.ensures (omega (arith, past, c.loop-index.invariant))
+
+pub returns-then-ne : goal.returns-then-ne
+returns-then-ne g c =
+    let m = c.args.winds.now.list in
+    let o = saved_under m.held c.args.name.0 in
+    let i = c.loop-index.index in
+    let differ : eqb c.in_ok-here.here.number.0 c.in_ok-there.there.number.0 ≡ false = search (rules, tests) in
+    let apart = common_apart m.current o i c.in_ok-here.here c.in_ok-there.there c.in_ok-here.ensures c.in_ok-there.ensures differ in
+    common-told m.current o c.in_ok-saved_len.field-0 i c.in_ok-saved_len.ensures (omega (arith, apart, c.loop-index.invariant))

@@ -1,4 +1,4 @@
-use Rattle.std.proofs.Common.{◌≡◌, ◌+◌}
+use Rattle.std.proofs.Common.{◌-◌, ◌≡◌, ◌+◌}
 use Rattle.store.specs.Meaning.{saved_under}
 use Rattle.held.proofs.Beginnings.{or_empty, common-from}
 use Rattle.held.proofs.common.common.Given as goal
@@ -9,3 +9,7 @@ invariant-loop-index g l =
     let m = l.winds.list in
     let ss = or_empty (saved_under m.held l.name.0) in
     common-from 0 m.current ss ≡ l.index + common-from l.index m.current ss
+
+-- what is left of the shorter list
+abbrev pub decreases-loop-index : goal.decreases-loop-index
+decreases-loop-index g l = l.shorter - l.index

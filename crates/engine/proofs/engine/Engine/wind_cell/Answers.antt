@@ -1,0 +1,9 @@
+use Rattle.std.proofs.Common.{sym, ap, ◌∙◌}
+use Rattle.cell.specs.Elements.{wind_in, wind_words}
+use Rattle.engine.proofs.Cells.{told}
+use Rattle.engine.proofs.engine.Engine.wind_cell.Goals as goal
+
+pub returns : goal.returns
+returns g c =
+    let of = sym (ap (λ p. p.winds.current) c.self.view_is) ∙ ap (λ m. m.current) c.store.ensures.list in
+    told wind_in wind_words _ c.self.invariant.1 _ of c.args.index _ (rw c.store.ensures.store at c.cell_at.ensures)

@@ -1,0 +1,3 @@
+-- What the program asks of runs, and what it prints.
+pub mod Report
+pub mod Output

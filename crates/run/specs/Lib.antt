@@ -1,0 +1,4 @@
+pub mod Admission
+pub mod Stages
+pub mod Serving
+pub mod Transcripts
