@@ -6,6 +6,7 @@ use Rattle.cell.specs.declared.value.Value.TheVariants.{Continuation}
 use Rattle.cell.specs.declared.frame.Frame.{Frame}
 use Rattle.cell.specs.declared.frame.Frame.TheVariants.{Mark}
 use Rattle.cell.specs.declared.wind.Wind.{Wind}
+use Rattle.store.specs.declared.refusal.Refusal.TheVariants.{Full}
 use Rattle.store.specs.declared.refused.Refused.{Refused}
 use Rattle.store.specs.Meaning.{Meaning, pushed, popped, restored, taken, released}
 use Rattle.store.specs.Typed.{outcome_as, refused_of}
@@ -120,7 +121,11 @@ holding_many n p = saving n p then λ q. adding n false (promoting q)
 abbrev pub holding_once : Name → Parts → Carried Unit
 holding_once n p = saving n p then adding n true
 
--- room for so many frames more
+-- room in a list for so many elements more, or its refusal for want of it
+abbrev pub room_in : {A : Type 0} → Meaning A → ℕ → Result Unit (Refused A)
+room_in m k = cond (nat_le (length m.current + k) m.depth_limit) (Ok tt) (Err (refused_of (Full m.limit_level)))
+
+-- room for so many frames more: what the list's refusal comes to is the end
 abbrev pub frame_room : ℕ → Parts → Carried Unit
 frame_room k p = cond (nat_le (length p.frames.current + k) p.frames.depth_limit) (Ok tt, p) (Err (FrameLimit p.frames.limit_level), p)
 

@@ -24,6 +24,7 @@ pub struct Counters {
 pub(crate) fn up(count: u32) -> u32
     ensures { result ≡ counted_on count }
 {
+    // It never wraps: no count passes the steps, and a run makes at most 4,000,000,000 of them.
     count.wrapping_add(1)
 }
 

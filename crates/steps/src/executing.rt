@@ -49,18 +49,18 @@ fn execute<F: Store, W: Store>(
     requires { at.0 < CAPACITY }
     ensures { (result, engine.new) ≡ carried (executing instruction engine.old at) engine.old }
 {
-    let on = Mode::Going(after(at));
+    let next = Mode::Going(after(at));
     match instruction {
-        Instruction::Set(r, number) => Ok(engine.write(r, Value::Number(number), on)),
-        Instruction::Proc(r, target) => Ok(engine.write(r, Value::Procedure(target), on)),
-        Instruction::Load(r, global) => Ok(engine.write(r, engine.global(global), on)),
-        Instruction::Store(global, r) => Ok(engine.write_global(global, engine.register(r), on)),
+        Instruction::Set(r, number) => Ok(engine.write(r, Value::Number(number), next)),
+        Instruction::Proc(r, target) => Ok(engine.write(r, Value::Procedure(target), next)),
+        Instruction::Load(r, global) => Ok(engine.write(r, engine.global(global), next)),
+        Instruction::Store(global, r) => Ok(engine.write_global(global, engine.register(r), next)),
         Instruction::Add(a, b, c) => add(engine, a, b, c, at),
         Instruction::Sub(a, b, c) => subtract(engine, a, b, c, at),
         Instruction::Less(a, b, c) => compare(engine, a, b, c, at),
         Instruction::Jump(target) => Ok(engine.go(Mode::Going(target))),
         Instruction::Zero(r, target) => jump_at_zero(engine, r, target, at),
-        Instruction::Push(r) => engine.push(Frame::Saved(engine.register(r)), on),
+        Instruction::Push(r) => engine.push(Frame::Saved(engine.register(r)), next),
         Instruction::Pop(r) => pop_saved(engine, r, at),
         Instruction::Print(r) => print(engine, r, at),
         Instruction::Call(r) => call(engine, r, at),

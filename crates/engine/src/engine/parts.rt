@@ -2,7 +2,7 @@
 ghost use Rattle.std.specs.Prelude.{◌≡◌, slice_index_or, slice_set};
 ghost use Rattle.cell.specs.declared.value.Value.TheVariants.{Empty};
 ghost use Rattle.engine.specs.Parts.{with_register, with_global, turned};
-ghost use Rattle.engine.specs.Acting.{pushing, popping, entering, leaving, frame_room, name_room};
+ghost use Rattle.engine.specs.Acting.{pushing, popping, entering, leaving, room_in, frame_room, name_room};
 
 use crate::engine::Engine;
 use cell::frame::Frame;
@@ -15,6 +15,8 @@ use machine::end::End;
 use machine::mode::Mode;
 use machine::name_move::NameMove;
 use machine::wind_move::WindMove;
+use store::refusal::Refusal;
+use store::refused::Refused;
 use store::store::Store;
 
 /// The value at an index; beyond the last there is none. Registers and globals are read and written by these two, a line for each.
@@ -104,14 +106,21 @@ impl<F: Store, W: Store> Engine<F, W> {
         self.counts.count(winds, names);
     }
 
-    /// There has to be room for so many frames more.
-    pub(crate) fn check_frames(&self, more: u32) -> Result<(), End>
-        ensures { (result, self.now) ≡ frame_room more self.now }
+    /// The refusal of the list of frames, where it has no room for so many more.
+    fn room_for(&self, more: u32) -> Result<(), Refused<Frame>>
+        ensures { result ≡ room_in self.now.frames more }
     {
         if u64::from(self.frames.len()) + u64::from(more) <= u64::from(self.frames.depth_limit()) {
             return Ok(());
         }
-        Err(End::FrameLimit(self.frames.limit_level()))
+        Err(Refusal::Full(self.frames.limit_level()).into())
+    }
+
+    /// There has to be room for so many frames more.
+    pub(crate) fn check_frames(&self, more: u32) -> Result<(), End>
+        ensures { (result, self.now) ≡ frame_room more self.now }
+    {
+        Ok(self.room_for(more)?)
     }
 
     /// There has to be room for a name more.
