@@ -1,7 +1,7 @@
 #!/usr/bin/env python3
 """Random rule sheets, to be run by the program and by the independent evaluator.
 
-  tools/generate.py SEED       prints the sheet made from that number
+  tools/generate.py NUMBER       prints the sheet made from that number
 
 The same number makes the same sheet. Most sheets are put together from statements that know what they need: captures
 are kept in globals and thrown to later, also from befores and afters. All throws go through one procedure that counts
@@ -101,9 +101,9 @@ def refused(chance):
 KINDS = {planned: 800, unplanned: 60, refused: 130, long_enough: 6, wordy: 1}
 
 
-def generate(seed):
+def generate(start):
     """The sheet made from a number."""
-    chance = random.Random(seed)
+    chance = random.Random(start)
     kind = chance.choices(list(KINDS), list(KINDS.values()))[0]
     lines = kind(chance)
     if kind is not refused:
@@ -114,7 +114,7 @@ def generate(seed):
 
 def main():
     if len(sys.argv) != 2 or not sys.argv[1].isdigit():
-        sys.exit("usage: tools/generate.py SEED")
+        sys.exit("usage: tools/generate.py NUMBER")
     sys.stdout.buffer.write(generate(int(sys.argv[1])))
 
 
