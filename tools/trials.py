@@ -1,0 +1,176 @@
+#!/usr/bin/env python3
+"""What the trials must print, by the independent evaluator.
+
+  tools/trials.py               writes the list of sheets and the expected output of crates/trials
+  tools/trials.py FILE..        prints what is expected of these sheets, and writes nothing
+
+A sheet says in comments that begin with `;! ` how it is run; another reader passes over them as over any comment.
+
+  ;! limits 48 16 7 7           the depth limits asked for frames and winds, and how many names the two stores may hold;
+                                the last is the third again where it is left out, and these four are usual
+  ;! globals g3=5 g31=-7        numbers that the run begins with; the others are 0
+  ;! calls GROUP, GROUP         a list of calls, which a run of its own is asked; there may be several such lines
+  ;! cells 3 0                  how many cells stand in the frame store and in the wind store when the run is opened
+  ;! names 0 1                  how many names they hold then
+
+A group is calls joined by `+`, with a count and `*` before them if they are made several times. A call is `run BUDGET SIZE`,
+`tally`, `look I`, `force I`, or `look I-J` and `force I-J` for all indices from I to J.
+"""
+import re
+import sys
+from pathlib import Path
+
+TOP = Path(__file__).resolve().parent.parent
+CRATE = TOP / "crates" / "trials"
+sys.path.append(str(TOP / "tools" / "evaluator"))
+
+import evaluate
+
+# What a sheet is asked that has no list of its own.
+USUAL_CALLS = (
+    "run 10000 12000, tally",
+    "4*run 1 12+tally+look 0-2+force 0, 6*run 5 13+tally, run 10000 1000, tally, look 0, force 0, run 1 12",
+)
+# The depth of the bottom stores under quotas, and by how much one quota of two is the larger.
+DEPTH, MORE = 64, 4
+
+
+class Trial:
+    def __init__(self, sheet):
+        self.sheet = sheet
+        self.limits, self.numbers, self.lists = [48, 16, 7], [0] * 32, []
+        self.cells, self.names = [0, 0], [0, 0]
+        for line in sheet.split(b"\n"):
+            if line.startswith(b";! "):
+                word, *rest = line.decode()[3:].split(" ", 1)
+                getattr(self, "take_" + word)(*rest)
+        self.lists = self.lists or [expanded(calls) for calls in USUAL_CALLS]
+
+    def take_limits(self, given):
+        self.limits = [int(word) for word in given.split()]
+
+    def take_globals(self, given):
+        for word in given.split():
+            at, number = re.fullmatch(r"g(\d+)=(-?\d+)", word).groups()
+            self.numbers[int(at)] = int(number)
+
+    def take_calls(self, given):
+        self.lists.append(expanded(given))
+
+    def take_cells(self, given):
+        self.cells = [int(word) for word in given.split()]
+
+    def take_names(self, given):
+        self.names = [int(word) for word in given.split()]
+
+
+def expanded(given):
+    calls = []
+    for group in given.split(", "):
+        count, _, body = group.rpartition("*")
+        calls += [call for part in body.split("+") for call in each_index(part)] * int(count or 1)
+    return calls
+
+
+def each_index(call):
+    ranged = re.fullmatch(r"(look|force) (\d+)-(\d+)", call)
+    if not ranged:
+        return [call]
+    word, first, last = ranged.groups()
+    return [f"{word} {index}" for index in range(int(first), int(last) + 1)]
+
+
+def bottom(depth, names):
+    """The limits of a bottom store and its limit level."""
+    return (depth, names, 0) if 16 <= depth <= 4096 and 2 <= names <= 64 else (0, 0, 0)
+
+
+def quota(height, number, below):
+    depth, names, level = below
+    return (number, names, height) if number < depth else below
+
+
+def plain(depth, names):
+    return bottom(depth, names)
+
+
+def layered(depth, names):
+    """A quota over a cache over a copied stack."""
+    return quota(2, depth, bottom(DEPTH, names))
+
+
+def outer_less(depth, names):
+    return quota(2, depth, quota(1, depth + MORE, bottom(DEPTH, names)))
+
+
+def inner_less(depth, names):
+    return quota(2, depth + MORE, quota(1, depth, bottom(DEPTH, names)))
+
+
+# The stores of frames and the stores of winds, by what they are called in the output.
+STORES = {
+    "linked": (plain, plain),
+    "copied": (plain, plain),
+    "layered": (layered, layered),
+    "cached": (plain, plain),
+    "quotas": (outer_less, inner_less),
+}
+
+
+def limits_of(trial, makes):
+    frames, winds, frame_names, *others = trial.limits
+    frame_store = makes[0](frames, frame_names)
+    wind_store = makes[1](winds, (others or [frame_names])[0])
+    limits = evaluate.Limits(frame_store[0], wind_store[0], frame_store[1], wind_store[1], frame_store[2], wind_store[2])
+    limits.unfit = limits.unfit or trial.cells != [0, 0] or trial.names != [0, 0]
+    return limits
+
+
+def told(trial, code, makes, calls):
+    """What a run answers, a line for each call, and the level of its end if that is a full store's."""
+    run = evaluate.Run(code, trial.numbers, limits_of(trial, makes))
+    answers = list(evaluate.transcript(run, calls))
+    if run.end in (40, 41):
+        answers.append(f"level {run.level}")
+    return answers
+
+
+def together(texts):
+    """Texts that are equal are told once, with all their names."""
+    while texts:
+        text = next(iter(texts.values()))
+        names = [name for name, other in texts.items() if other == text]
+        texts = {name: other for name, other in texts.items() if name not in names}
+        yield "on " + " ".join(names)
+        yield from text
+
+
+def expected(name, sheet):
+    lines = [name]
+    try:
+        code = evaluate.read(sheet)
+    except evaluate.SheetRefused as refused:
+        return lines + [f"sheet {refused.number} line {refused.line}"]
+    trial = Trial(sheet)
+    for calls in trial.lists:
+        lines += together({name: told(trial, code, makes, calls) for name, makes in STORES.items()})
+    return lines
+
+
+def expected_of(files):
+    return "".join(line + "\n" for file in files for line in expected(file.name, file.read_bytes()))
+
+
+def main():
+    # A sheet may have numbers of any length.
+    sys.set_int_max_str_digits(0)
+    if sys.argv[1:]:
+        print(expected_of(map(Path, sys.argv[1:])), end="")
+        return
+    files = sorted((CRATE / "data").glob("*.sheet"))
+    (CRATE / "data" / "sheets.txt").write_text("".join(file.name + "\n" for file in files))
+    (CRATE / "stdout").write_text(expected_of(files))
+
+
+if __name__ == "__main__":
+    main()
