@@ -74,7 +74,8 @@ def refused_pairs(word):
 def refused_sums():
     for word, wrong in SUMS.items():
         for one, other in refused_pairs(word):
-            about = [f"`{word}` of {SPOKEN[one]} and {SPOKEN[other]} ends with 30.", wrong.format(sum_of_payloads(word, one, other))]
+            told = wrong.format(sum_of_payloads(word, one, other))
+            about = [f"`{word}` of {SPOKEN[one]} and {SPOKEN[other]} ends with 30.", told]
             refused(f"{word}_{one}_{other}", about, [one, other], f"{word} r4 r2 r3", ["print r4"])
 
 
@@ -135,7 +136,8 @@ def not_held():
     for word, told in wrong.items():
         about = [f"`{word}` of a continuation that was forgotten ends with 33; its value can still be pushed.", told]
         lines = ["proc r1 begin", "cc r1", "set r6 13", "print r6"]
-        lines += [":begin", "push r0", "pop r2", "push r2", "forget r2", "push r2", f"{word} r2", "set r6 12", "print r6", "stop"]
+        lines += [":begin", "push r0", "pop r2", "push r2", "forget r2", "push r2"]
+        lines += [f"{word} r2", "set r6 12", "print r6", "stop"]
         calls = ["run 1000 100, tally, look 0-3", "run 5 12, 5*run 1 12+tally+look 0-3"]
         write(f"{word}_not_held", about, calls, lines)
 
