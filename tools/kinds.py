@@ -220,6 +220,18 @@ def held_values():
     write("held_values", about, ["5*run 1000 12+look 0-6, tally"], bodies(BEGINNING + LONGEST, ["ret"]))
 
 
+def seen_in_winds():
+    lines = ["set r0 3", "proc r2 before", "proc r3 body", "proc r4 after", "wind r2 r3 r4", "print r0"]
+    lines += ["proc r1 inside", "cc1 r1", "print r0", "stop"]
+    lines += [":inside", "store g0 r0", "set r0 8", "proc r3 throw", "wind r2 r3 r4"]
+    lines += [":throw", "load r5 g0", "set r0 7", "call r5"]
+    for label, number in (("before", 4), ("body", 5), ("after", 6)):
+        lines += [f":{label}", "print r0", f"set r0 {number}", "ret"]
+    about = ["Before, body and after print r0 as the one before them left it, and so does the after of a throw: 3 4 5 5 8 7 7.",
+             "A machine that clears r0 for an after, or puts the thrown value there too late or too early, prints others."]
+    write("seen_in_winds", about, ["run 1000 100, tally", "41*run 1 12, tally"], lines)
+
+
 def tossed_values():
     lines = BEGINNING + LONGEST + ["proc r2 before", "proc r4 after"]
     for at, kind in enumerate(KINDS):
@@ -289,6 +301,17 @@ def winds_accepted():
     write("winds", about, calls, lines)
 
 
+def winds_numbered():
+    lines = LONGEST + ["proc r2 before", "proc r3 body", "proc r4 after", "wind r2 r3 r4", "load r5 g3", "zero r5 again"]
+    lines += ["proc r3 other", "wind r2 r3 r4", "stop"]
+    lines += [":again", "set r5 1", "store g3 r5", "load r5 g2", "call r5"]
+    lines += [":body", "proc r1 inside", "cc r1", *LONGEST, ":before", ":after", "ret", ":inside", "store g2 r0", "ret"]
+    lines += [":other", *LONGEST, "ret"]
+    about = ["A wind that is entered again keeps its number 1, and the next wind has 2; the runs stop in the bodies.",
+             "A machine that gives a number at each entering tells 2 and 3."]
+    write("winds_numbered", about, ["4*run 1000 12+tally+force 0-1"], lines)
+
+
 def main():
     refused_sums()
     refused_singles()
@@ -301,11 +324,13 @@ def main():
     thrown()
     returned()
     held_values()
+    seen_in_winds()
     tossed_values()
     entered_values()
     numbers()
     each_accepted()
     winds_accepted()
+    winds_numbered()
 
 
 if __name__ == "__main__":
