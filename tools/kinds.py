@@ -204,20 +204,16 @@ def returned():
     write("returned", about, ["run 10000 12, tally, look 0-5"], lines + ["stop"])
 
 
-def bodies(lines, ending):
-    """A wind for each kind, the body of which is `ending` with the kind in r0; then r0 is pushed."""
-    lines += ["proc r2 before", "proc r4 after"]
+def held_values():
+    lines = BEGINNING + LONGEST + ["proc r2 before", "proc r4 after"]
     for at, kind in enumerate(KINDS):
         body, following = named("body", at), named("next", at)
         lines += [f"proc r3 {body}", "wind r2 r3 r4", "push r0", f"jump {following}"]
-        lines += [f":{body}", made(kind, "r0"), *ending, f":{following}"]
-    return lines + ["stop", ":before", "ret", ":after", "set r0 9", *LONGEST, "ret"]
-
-
-def held_values():
+        lines += [f":{body}", made(kind, "r0"), "ret", f":{following}"]
+    lines += ["stop", ":before", "ret", ":after", "set r0 9", *LONGEST, "ret"]
     about = ["Each kind is the body's value while an after runs that sets r0 to 9, and is back in r0 behind the wind.",
              "The runs stop in the afters, where Hold has the value. A machine without Hold pushes four nines."]
-    write("held_values", about, ["5*run 1000 12+look 0-6, tally"], bodies(BEGINNING + LONGEST, ["ret"]))
+    write("held_values", about, ["5*run 1000 12+look 0-6, tally"], lines)
 
 
 def seen_in_winds():
@@ -245,14 +241,14 @@ def tossed_values():
 
 
 def entered_values():
-    lines = list(BEGINNING)
-    lines += ["proc r2 before", "proc r3 body", "proc r4 after", "wind r2 r3 r4", "load r5 g3"]
-    for at, kind in enumerate(KINDS):
-        label = named("next", at)
-        lines += [f"zero r5 {label}", "set r6 1", "sub r5 r5 r6"]
+    """The count of throws, in g3, tells which kind is thrown next."""
+    lines = BEGINNING + ["proc r2 before", "proc r3 body", "proc r4 after", "wind r2 r3 r4", "load r5 g3"]
+    turns = [named("next", at) for at in range(len(KINDS))]
+    for turn in turns:
+        lines += [f"zero r5 {turn}", "set r6 1", "sub r5 r5 r6"]
     lines += ["stop"]
-    for at, kind in enumerate(KINDS):
-        lines += [f":{named('next', at)}", made(kind, "r0"), "jump throw"]
+    for turn, kind in zip(turns, KINDS):
+        lines += [f":{turn}", made(kind, "r0"), "jump throw"]
     lines += [":throw", "load r5 g3", "set r6 1", "add r5 r5 r6", "store g3 r5", "load r5 g2", "call r5"]
     lines += [":before", "set r0 9", "set r6 -1111111111", "print r6", "ret"]
     lines += [":body", "proc r1 inside", "cc r1", "store g4 r0", "load r6 g4", "push r6", *LONGEST, "pop r6", "ret"]
