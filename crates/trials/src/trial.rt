@@ -24,6 +24,11 @@ struct Trial {
     directives: Directives,
 }
 
+fn halves(exchanges: &mut [Exchange]) -> (&mut [Exchange], &mut [Exchange]) {
+    let half = exchanges.len() / 2;
+    exchanges.split_at_mut(half)
+}
+
 impl Trial {
     /// What a run was answered.
     fn answers<F: Store, W: Store>(
@@ -52,19 +57,24 @@ impl Trial {
         self.answers(make, &run, &asked)
     }
 
-    /// What a list is answered on two makes of which both runs are opened by one call.
+    /// What a list is answered on two makes of which both runs are opened by one call. It answers the first half, and each run that
+    /// it hands back is served the other.
     fn on_linked_and_layered(&self, calls: &[Call]) -> Result<(Answers, Answers), AllocError> {
         let limits = &self.directives.limits;
         let mut asked = exchanges(self.heap, calls)?;
         let mut others = exchanges(self.heap, calls)?;
-        let (one, other) = two_runs(
+        let (first, later) = halves(&mut asked);
+        let (others_first, others_later) = halves(&mut others);
+        let (mut one, mut other) = two_runs(
             &self.code,
             self.directives.numbers,
             filled(&self.directives, both_linked(self.heap, limits)?),
             filled(&self.directives, both_layered(self.heap, limits)?),
-            &mut asked,
-            &mut others,
+            first,
+            others_first,
         );
+        serve(&mut one, later);
+        serve(&mut other, others_later);
         Ok((
             self.answers("linked", &one, &asked)?,
             self.answers("layered", &other, &others)?,
