@@ -31,7 +31,7 @@ def needed(sheet):
 
 def some_limits(chance):
     frames = chance.choice((16, 17, 20, 24, 32, 48, 63, 64, 65, 100))
-    winds = chance.choice((4, 5, 8, 16, 16, 16, 17, 20))
+    winds = chance.choice((4, 5, 8, 16, 16, 16, 16, 16, 17, 20))
     names = [chance.choice((2, 3, 4, 5, 7, 9, 64)) for _ in range(chance.randrange(1, 3))]
     return [frames, winds, *names]
 
@@ -41,7 +41,7 @@ def met_limits(chance, sheet):
     most = needed(sheet)
     if most is None:
         return some_limits(chance)
-    leasts = chance.choice((LEASTS, (BOTTOM, BOTTOM, LEASTS[-1])))
+    leasts = LEASTS if chance.randrange(4) == 0 else (BOTTOM, BOTTOM, LEASTS[-1])
     return [max(least, number - (chance.randrange(3) == 0)) for least, number in zip(leasts, most)]
 
 
