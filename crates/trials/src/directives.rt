@@ -17,6 +17,13 @@ pub struct Limits {
     pub wind_names: u32,
 }
 
+const USUAL_LIMITS: Limits = Limits {
+    frames: 48,
+    winds: 16,
+    frame_names: 7,
+    wind_names: 7,
+};
+
 /// How much stands in two stores when a run is opened on them.
 #[derive(Clone, Copy)]
 pub struct Contents {
@@ -80,12 +87,7 @@ impl Directives {
     fn usual(heap: Global) -> Self {
         Directives {
             heap,
-            limits: Limits {
-                frames: 48,
-                winds: 16,
-                frame_names: 7,
-                wind_names: 7,
-            },
+            limits: USUAL_LIMITS,
             numbers: [0; GLOBALS as usize],
             lists: Vec::new(heap),
             cells: NOTHING,

@@ -24,9 +24,9 @@ const NAMES: &str = "sheets.txt";
 fn print_all<W: Write>(rt: &(impl Files + AllocGlobal), out: &mut W) -> anyhow::Result<()> {
     let names = fs::read_to_string(rt, NAMES).context(NAMES)?;
     for name in names.lines() {
-        let sheet = fs::read(rt, name).context(format_args!("{name}"))?;
+        let sheet = fs::read(rt, name).context(name)?;
         writeln!(out, "{name}")?;
-        print_sheet(out, rt.alloc(), &sheet).context(format_args!("{name}"))?;
+        print_sheet(out, rt.alloc(), &sheet).context(name)?;
     }
     Ok(())
 }

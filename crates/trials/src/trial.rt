@@ -16,6 +16,9 @@ use std::alloc::{AllocError, Global};
 use std::io::Write;
 use store::store::Store;
 
+/// How many makes of stores there are.
+const MAKES: usize = 5;
+
 /// A code, and how it is run.
 #[derive(Drop)]
 struct Trial {
@@ -82,7 +85,7 @@ impl Trial {
     }
 
     /// What a list is answered on each make.
-    fn on_all(&self, calls: &[Call]) -> Result<[Answers; 5], AllocError> {
+    fn on_all(&self, calls: &[Call]) -> Result<[Answers; MAKES], AllocError> {
         let limits = &self.directives.limits;
         let (on_linked, on_layered) = self.on_linked_and_layered(calls)?;
         Ok([
