@@ -37,6 +37,7 @@ impl Model for Assembly {
 }
 
 impl Assembly {
+    /// Tables with nothing in them.
     pub fn new() -> Self
         ensures { result ≡ empty }
     {
