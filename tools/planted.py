@@ -21,6 +21,8 @@ TOP = Path(__file__).resolve().parent.parent
 # Whose output is the evaluator's, and whose tests compare all stores: what is run of bugs in the crates named.
 READERS = ("lexer", "code", "sheet")
 STORES = ("cell", "store", "bottom", "linked", "copied", "layers")
+# The proofs of the table of examples, which are no laws.
+EXAMPLES = ("Computed", "examples/examples_run/Answers")
 # A program that runs longer than this, in seconds, is taken for one that never ends.
 PATIENCE = 300
 
@@ -135,13 +137,13 @@ def try_tests(crate, bugs):
             print(f"| `{bug.name}` | {bug.about} | {failed or '**no test**'} |", flush=True)
 
 
-def first_failing(crate, *options):
-    """The file at which a crate's check fails first, or nothing if it is proved."""
+def failing_files(crate, *options):
+    """The files in which a crate's check fails, without their endings; none if it is proved."""
     done = subprocess.run(["rt", "check", *options], cwd=crate, capture_output=True, text=True)
     if done.returncode == 0:
-        return None
-    place = re.search(r"^(?:\./)?((?:src|specs|proofs)/[^:\s]+):\d+:\d+: error", done.stdout + done.stderr, re.MULTILINE)
-    return place[1] if place else "(no file is told)"
+        return []
+    places = re.findall(r"^(?:\./)?(?:src|specs|proofs)/([^:\s]+)\.\w+:\d+:\d+: error", done.stdout + done.stderr, re.MULTILINE)
+    return sorted(set(places)) or ["(no file is told)"]
 
 
 def try_definition(bugs):
@@ -149,10 +151,10 @@ def try_definition(bugs):
         with tempfile.TemporaryDirectory() as folder:
             crates = copied(Path(folder)) / "crates"
             bug.plant(crates / "machine")
-            law = first_failing(crates / "machine") or first_failing(crates / "laws")
-            tables = {"worked": first_failing(crates / "worked"), "laws": first_failing(crates / "laws", "--only", "examples_run")}
-            seen = ", ".join(crate for crate, failed in tables.items() if failed)
-            print(f"| {bug.about} | {f'`{law}`' if law else '**none**'} | {seen or 'none'} |", flush=True)
+            failed = failing_files(crates / "machine") or failing_files(crates / "laws")
+            examples = failing_files(crates / "worked") or failing_files(crates / "laws", "--only", "examples_run")
+            laws = ", ".join(f"`{file}`" for file in failed if file not in EXAMPLES)
+            print(f"| {bug.about} | {laws or '**none**'} | {'yes' if examples else '**no**'} |", flush=True)
 
 
 def chosen(crate, named):
