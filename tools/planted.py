@@ -1,10 +1,11 @@
 #!/usr/bin/env python3
 """Plants bugs in a crate's code, one at a time, and tells what refuses each.
 
-  tools/planted.py CRATE [BUG..]           tries the prover
-  tools/planted.py --tests CRATE [BUG..]   runs the programs and the tests with each bug, unproved
+  tools/planted.py CRATE [BUG..]              tries the prover
+  tools/planted.py --tests CRATE [BUG..]      runs the programs and the tests with each bug, unproved
+  tools/planted.py --definition [BUG..]       plants errors in the definition of the machine, and tries its laws and its examples
 
-The bugs of a crate stand in tools/bugs/CRATE.txt, a block each: a line `bug: NAME`, a line `about:` that says in plain words
+The bugs of a crate stand in tools/bugs/CRATE.txt, those of the definition in tools/bugs/definition.txt, a block each: a line `bug: NAME`, a line `about:` that says in plain words
 what is wrong, `file:` (from the crate's folder on), and pairs of `old:` and `new:`, as in a must-fail edit. Each is planted in
 a copy of the repository; nothing is changed here. A line of the table is printed for each.
 """
@@ -20,6 +21,8 @@ TOP = Path(__file__).resolve().parent.parent
 # Whose output is the evaluator's, and whose tests compare all stores: what is run of bugs in the crates named.
 READERS = ("lexer", "code", "sheet")
 STORES = ("cell", "store", "bottom", "linked", "copied", "layers")
+# The proofs of the table of examples, which are no laws.
+EXAMPLES = ("Computed", "examples/examples_run/Answers")
 # A program that runs longer than this, in seconds, is taken for one that never ends.
 PATIENCE = 300
 
@@ -133,12 +136,40 @@ def try_tests(crate, bugs):
             print(f"| `{bug.name}` | {bug.about} | {failed or '**no test**'} |", flush=True)
 
 
+def failing_files(crate, *options):
+    """The files in which a crate's check fails, without their endings; none if it is proved."""
+    done = subprocess.run(["rt", "check", *options], cwd=crate, capture_output=True, text=True)
+    if done.returncode == 0:
+        return []
+    places = re.findall(r"^(?:\./)?(?:src|specs|proofs)/([^:\s]+)\.\w+:\d+:\d+: error", done.stdout + done.stderr, re.MULTILINE)
+    return sorted(set(places)) or ["(no file is told)"]
+
+
+def try_definition(bugs):
+    for bug in bugs:
+        with tempfile.TemporaryDirectory() as folder:
+            crates = copied(Path(folder)) / "crates"
+            bug.plant(crates / "machine")
+            failed = failing_files(crates / "machine") or failing_files(crates / "laws")
+            examples = failing_files(crates / "worked") or failing_files(crates / "laws", "--only", "examples_run")
+            laws = ", ".join(f"`{file}`" for file in failed if file not in EXAMPLES)
+            print(f"| {bug.about} | {laws or '**none**'} | {'yes' if examples else '**no**'} |", flush=True)
+
+
+def chosen(crate, named):
+    return [bug for bug in bugs_of(crate) if not named or bug.name in named]
+
+
 def main():
-    given = sys.argv[1:]
-    tests = given[:1] == ["--tests"]
-    crate, *named = given[1:] if tests else given
-    bugs = [bug for bug in bugs_of(crate) if not named or bug.name in named]
-    (try_tests if tests else try_prover)(crate, bugs)
+    match sys.argv[1:]:
+        case ["--definition", *named]:
+            try_definition(chosen("definition", named))
+        case ["--tests", crate, *named]:
+            try_tests(crate, chosen(crate, named))
+        case [crate, *named]:
+            try_prover(crate, chosen(crate, named))
+        case []:
+            sys.exit(__doc__)
 
 
 if __name__ == "__main__":
