@@ -76,6 +76,8 @@ def copied(folder):
 def proofs_verdict(told):
     if not told.startswith("refused"):
         return "**not refused by the prover**: " + told
+    if "names what the edit took away" in told:
+        return "refused, but only since a proof names what the bug took away"
     place = re.search(r"(?:^|\s)(?:\./)?((?:src|proofs)/[^:\s]+)", told)
     return f"refused, first at `{place[1]}`" if place else told
 
