@@ -10,8 +10,9 @@ A sheet says in comments that begin with `;! ` how it is run; another reader pas
                                 the last is the third again where it is left out, and these four are usual
   ;! globals g3=5 g31=-7        numbers that the run begins with; the others are 0
   ;! calls GROUP, GROUP         a list of calls, which a run of its own is asked; there may be several such lines
-  ;! cells 3 0                  how many cells stand in the frame store and in the wind store when the run is opened
-  ;! names 0 1                  how many names they hold then
+  ;! cells 3 0                  how many cells stand in the frame store and in the wind store when the run is opened,
+                                of the words 9 I I I at index I; as many as the store has room for
+  ;! names 0 1                  how many names they hold then, from 1 on
 
 A group is calls joined by `+`, with a count and `*` before them if they are made several times. A call is `run BUDGET SIZE`,
 `tally`, `look I`, `force I`, or `look I-J` and `force I-J` for all indices from I to J.
@@ -33,6 +34,8 @@ USUAL_CALLS = (
 )
 # The depth of the bottom stores under quotas, and by how much one quota of two is the larger.
 DEPTH, MORE = 64, 4
+# The first word of the cells that stand in a store before: no frame is written with it.
+STRANGE = 9
 
 
 class Trial:
@@ -121,14 +124,42 @@ def limits_of(trial, makes):
     frames, winds, frame_names, *others = trial.limits
     frame_store = makes[0](frames, frame_names)
     wind_store = makes[1](winds, (others or [frame_names])[0])
-    limits = evaluate.Limits(frame_store[0], wind_store[0], frame_store[1], wind_store[1], frame_store[2], wind_store[2])
-    limits.unfit = limits.unfit or trial.cells != [0, 0] or trial.names != [0, 0]
-    return limits
+    return evaluate.Limits(frame_store[0], wind_store[0], frame_store[1], wind_store[1], frame_store[2], wind_store[2])
+
+
+class FilledRun(evaluate.Run):
+    """A run on stores of which one had a cell or held a name: it has ended as it was opened, and tells the cells."""
+
+    def __init__(self, code, numbers, limits, cells):
+        limits.unfit = True
+        super().__init__(code, numbers, limits)
+        self.in_frames, self.in_winds = cells_within(cells[0], limits.frames), cells_within(cells[1], limits.winds)
+
+    def look(self, index):
+        return cell_of(self.in_frames, index)
+
+    def force(self, index):
+        return cell_of(self.in_winds, index)
+
+
+def cells_within(wanted, depth):
+    return [[STRANGE] + [index] * 3 for index in range(min(wanted, depth))]
+
+
+def cell_of(cells, index):
+    return cells[index] if index < len(cells) else 23
+
+
+def opened(trial, code, makes):
+    limits = limits_of(trial, makes)
+    if any(trial.cells + trial.names):
+        return FilledRun(code, trial.numbers, limits, trial.cells)
+    return evaluate.Run(code, trial.numbers, limits)
 
 
 def told(trial, code, makes, calls):
     """What a run answers, a line for each call, and the level of its end if that is a full store's."""
-    run = evaluate.Run(code, trial.numbers, limits_of(trial, makes))
+    run = opened(trial, code, makes)
     answers = list(evaluate.transcript(run, calls))
     if run.end in (40, 41):
         answers.append(f"level {run.level}")
