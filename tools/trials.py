@@ -38,49 +38,76 @@ DEPTH, MORE = 64, 4
 STRANGE = 9
 
 
+class Malformed(Exception):
+    """A line that begins as a directive and is none; the program refuses it too."""
+
+
 class Trial:
     def __init__(self, sheet):
-        self.sheet = sheet
         self.limits, self.numbers, self.lists = [48, 16, 7], [0] * 32, []
         self.cells, self.names = [0, 0], [0, 0]
-        for line in sheet.split(b"\n"):
+        for number, line in enumerate(sheet.split(b"\n"), 1):
             if line.startswith(b";! "):
-                word, *rest = line.decode()[3:].split(" ", 1)
-                getattr(self, "take_" + word)(*rest)
+                self.take(number, line.decode())
         self.lists = self.lists or [expanded(calls) for calls in USUAL_CALLS]
 
+    def take(self, number, line):
+        name, _, given = line[3:].partition(" ")
+        try:
+            getattr(self, "take_" + name)(given)
+        except (AttributeError, IndexError, ValueError) as fault:
+            raise Malformed(f"line {number}: {line}") from fault
+
     def take_limits(self, given):
-        self.limits = [int(word) for word in given.split()]
+        self.limits = words(given, (3, 4))
 
     def take_globals(self, given):
-        for word in given.split():
-            at, number = re.fullmatch(r"g(\d+)=(-?\d+)", word).groups()
+        for assignment in given.split(" "):
+            at, number = re.fullmatch(r"g([0-9]+)=(-?[0-9]+)", assignment).groups()
+            if not -(2**31) <= int(number) < 2**31:
+                raise ValueError(number)
             self.numbers[int(at)] = int(number)
 
     def take_calls(self, given):
         self.lists.append(expanded(given))
 
     def take_cells(self, given):
-        self.cells = [int(word) for word in given.split()]
+        self.cells = words(given, (2,))
 
     def take_names(self, given):
-        self.names = [int(word) for word in given.split()]
+        self.names = words(given, (2,))
+
+
+def word(text):
+    if not re.fullmatch("[0-9]+", text) or int(text) >= 2**32:
+        raise ValueError(text)
+    return int(text)
+
+
+def words(given, counts):
+    made = [word(text) for text in given.split(" ")]
+    if len(made) not in counts:
+        raise ValueError(given)
+    return made
 
 
 def expanded(given):
     calls = []
     for group in given.split(", "):
         count, _, body = group.rpartition("*")
-        calls += [call for part in body.split("+") for call in each_index(part)] * int(count or 1)
+        calls += [call for part in body.split("+") for call in each_index(part)] * word(count or "1")
     return calls
 
 
 def each_index(call):
-    ranged = re.fullmatch(r"(look|force) (\d+)-(\d+)", call)
-    if not ranged:
-        return [call]
-    word, first, last = ranged.groups()
-    return [f"{word} {index}" for index in range(int(first), int(last) + 1)]
+    """The calls that one stands for."""
+    name, *given = call.split(" ")
+    if (name, len(given)) in (("look", 1), ("force", 1)):
+        first, _, last = given[0].partition("-")
+        return [f"{name} {index}" for index in range(word(first), word(last or first) + 1)]
+    if (name, len(given)) not in (("run", 2), ("tally", 0)):
+        raise ValueError(call)
+    return [" ".join([name, *(str(word(text)) for text in given)])]
 
 
 def bottom(depth, names):
@@ -150,20 +177,31 @@ def cell_of(cells, index):
     return cells[index] if index < len(cells) else 23
 
 
-def opened(trial, code, makes):
-    limits = limits_of(trial, makes)
+def opened(trial, code, limits):
     if any(trial.cells + trial.names):
         return FilledRun(code, trial.numbers, limits, trial.cells)
     return evaluate.Run(code, trial.numbers, limits)
 
 
-def told(trial, code, makes, calls):
+def told(trial, code, limits, calls):
     """What a run answers, a line for each call, and the level of its end if that is a full store's."""
-    run = opened(trial, code, makes)
+    run = opened(trial, code, limits)
     answers = list(evaluate.transcript(run, calls))
     if run.end in (40, 41):
         answers.append(f"level {run.level}")
     return answers
+
+
+def told_on_all(trial, code, calls):
+    """What is answered on each make. Where the limits are equal the answers are, so they are reckoned once."""
+    texts, reckoned = {}, {}
+    for name, makes in STORES.items():
+        limits = limits_of(trial, makes)
+        same = tuple(vars(limits).values())
+        if same not in reckoned:
+            reckoned[same] = told(trial, code, limits, calls)
+        texts[name] = reckoned[same]
+    return texts
 
 
 def together(texts):
@@ -182,11 +220,12 @@ def expected(name, sheet):
         code = evaluate.read(sheet)
     except evaluate.SheetRefused as refused:
         return lines + [f"sheet {refused.number} line {refused.line}"]
-    trial = Trial(sheet)
+    try:
+        trial = Trial(sheet)
+    except Malformed as malformed:
+        sys.exit(f"{name}, {malformed}")
     for calls in trial.lists:
-        # Makes of equal limits are told alike, so each pair of limits is run once.
-        texts = {makes: told(trial, code, makes, calls) for makes in set(STORES.values())}
-        lines += together({name: texts[makes] for name, makes in STORES.items()})
+        lines += together(told_on_all(trial, code, calls))
     return lines
 
 
