@@ -95,12 +95,11 @@ def try_prover(crate, bugs):
 
 def run_unproved(crate, *options):
     """What a crate's program prints, or that its tests failed, with nothing proved."""
-    if (crate / "data").exists():
-        for file in (crate / "data").iterdir():
-            shutil.copy(file, crate)
+    # Its files are named to `rt try`, which runs it in an empty folder.
+    data = [word for file in sorted((crate / "data").glob("*")) for word in ("--data", f"{file.name}=data/{file.name}")]
     stdin = open(crate / "stdin", "rb") if (crate / "stdin").exists() else subprocess.DEVNULL
     try:
-        return subprocess.run(["rt", "try", *options], cwd=crate, stdin=stdin, capture_output=True, timeout=PATIENCE)
+        return subprocess.run(["rt", "try", *options, *data], cwd=crate, stdin=stdin, capture_output=True, timeout=PATIENCE)
     except subprocess.TimeoutExpired:
         return None
 
