@@ -4,18 +4,7 @@
   tools/trials.py               writes the list of sheets and the expected output of crates/trials
   tools/trials.py FILE..        prints what is expected of these sheets, and writes nothing
 
-A sheet says in comments that begin with `;! ` how it is run; another reader passes over them as over any comment.
-
-  ;! limits 48 16 7 7           the depth limits asked for frames and winds, and how many names the two stores may hold;
-                                the last is the third again where it is left out, and these four are usual
-  ;! globals g3=5 g31=-7        numbers that the run begins with; the others are 0
-  ;! calls GROUP, GROUP         a list of calls, which a run of its own is asked; there may be several such lines
-  ;! cells 3 0                  how many cells stand in the frame store and in the wind store when the run is opened,
-                                of the words 9 I I I at index I; as many as the store has room for
-  ;! names 0 1                  how many names they hold then, from 1 on
-
-A group is calls joined by `+`, with a count and `*` before them if they are made several times. A call is `run BUDGET SIZE`,
-`tally`, `look I`, `force I`, or `look I-J` and `force I-J` for all indices from I to J.
+docs/TRIALS.md has the form of the comments by which a sheet says how it is run, and the makes of stores.
 """
 import re
 import sys
