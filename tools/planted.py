@@ -139,12 +139,12 @@ def try_tests(crate, bugs):
 
 
 def failing_files(crate, *options):
-    """The files in which a crate's check fails, without their endings; none if it is proved."""
+    """The files in which a crate's check fails, and not only for what fails below, without their endings; none if it is proved."""
     done = subprocess.run(["rt", "check", *options], cwd=crate, capture_output=True, text=True)
     if done.returncode == 0:
         return []
-    places = re.findall(r"^(?:\./)?(?:src|specs|proofs)/([^:\s]+)\.\w+:\d+:\d+: error", done.stdout + done.stderr, re.MULTILINE)
-    return sorted(set(places)) or ["(no file is told)"]
+    errors = re.findall(r"^(?:\./)?(?:src|specs|proofs)/([^:\s]+)\.\w+:\d+:\d+: error: (.*)", done.stdout + done.stderr, re.MULTILINE)
+    return sorted({file for file, error in errors if "not checked" not in error}) or ["(no file is told)"]
 
 
 def try_definition(bugs):
