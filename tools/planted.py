@@ -23,8 +23,9 @@ READERS = ("lexer", "code", "sheet")
 STORES = ("cell", "store", "bottom", "linked", "copied", "layers")
 # The proofs of the table of examples, which are no laws.
 EXAMPLES = ("Computed", "examples/examples_run/Answers")
-# A program that runs longer than this, in seconds, is taken for one that never ends.
-PATIENCE = 300
+# A program that runs longer than this is taken for one that never ends; the second is in seconds, with the time to make it.
+LENGTH = ("--seconds", "200", "--steps", "20000000000")
+PATIENCE = 400
 
 
 @dataclass
@@ -104,7 +105,7 @@ def run_unproved(crate, *options):
     data = [word for file in sorted((crate / "data").glob("*")) for word in ("--data", f"{file.name}=data/{file.name}")]
     stdin = open(crate / "stdin", "rb") if (crate / "stdin").exists() else subprocess.DEVNULL
     try:
-        return subprocess.run(["rt", "try", *options, *data], cwd=crate, stdin=stdin, capture_output=True, timeout=PATIENCE)
+        return subprocess.run(["rt", "try", *LENGTH, *options, *data], cwd=crate, stdin=stdin, capture_output=True, timeout=PATIENCE)
     except subprocess.TimeoutExpired:
         return None
 
