@@ -7,12 +7,16 @@ The same number makes the same sheet. Most sheets are put together from statemen
 are kept in globals and thrown to later, also from befores and afters. All throws go through one procedure that counts
 down and throws only while the count is above the number of the place, so that most runs come to their last part, which
 ends them in one of all ways. Other sheets are instructions at random, runs that end just about when the program gives
-up, and sheets that are refused.
+up, and sheets that are refused. In front of most there are comments that say how the program `trials` runs the sheet.
 """
 import random
 import sys
+from pathlib import Path
+
+sys.path.append(str(Path(__file__).resolve().parent / "evaluator"))
 
 from generator.damages import damage, insert, joined
+from generator.directives import directives
 from generator.draft import LEAST, LETTERS, Draft
 from generator.endings import finish
 from generator.statements import LIMITS, some_statements
@@ -109,7 +113,9 @@ def generate(start):
     if kind is not refused:
         decorate(chance, lines)
     sheet = joined(lines)
-    return sheet[:-1] if chance.randrange(8) == 0 else sheet
+    if chance.randrange(8) == 0:
+        sheet = sheet[:-1]
+    return joined(directives(chance, sheet)) + sheet
 
 
 def main():

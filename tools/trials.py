@@ -4,17 +4,7 @@
   tools/trials.py               writes the list of sheets and the expected output of crates/trials
   tools/trials.py FILE..        prints what is expected of these sheets, and writes nothing
 
-A sheet says in comments that begin with `;! ` how it is run; another reader passes over them as over any comment.
-
-  ;! limits 48 16 7 7           the depth limits asked for frames and winds, and how many names the two stores may hold;
-                                the last is the third again where it is left out, and these four are usual
-  ;! globals g3=5 g31=-7        numbers that the run begins with; the others are 0
-  ;! calls GROUP, GROUP         a list of calls, which a run of its own is asked; there may be several such lines
-  ;! cells 3 0                  how many cells stand in the frame store and in the wind store when the run is opened
-  ;! names 0 1                  how many names they hold then
-
-A group is calls joined by `+`, with a count and `*` before them if they are made several times. A call is `run BUDGET SIZE`,
-`tally`, `look I`, `force I`, or `look I-J` and `force I-J` for all indices from I to J.
+docs/TRIALS.md has the form of the comments by which a sheet says how it is run, and the makes of stores.
 """
 import re
 import sys
@@ -33,51 +23,80 @@ USUAL_CALLS = (
 )
 # The depth of the bottom stores under quotas, and by how much one quota of two is the larger.
 DEPTH, MORE = 64, 4
+# The first word of the cells that stand in a store before: no frame is written with it.
+STRANGE = 9
+
+
+class Malformed(Exception):
+    """A line that begins as a directive and is none; the program refuses it too."""
 
 
 class Trial:
     def __init__(self, sheet):
-        self.sheet = sheet
         self.limits, self.numbers, self.lists = [48, 16, 7], [0] * 32, []
         self.cells, self.names = [0, 0], [0, 0]
-        for line in sheet.split(b"\n"):
+        for number, line in enumerate(sheet.split(b"\n"), 1):
             if line.startswith(b";! "):
-                word, *rest = line.decode()[3:].split(" ", 1)
-                getattr(self, "take_" + word)(*rest)
+                self.take(number, line.decode())
         self.lists = self.lists or [expanded(calls) for calls in USUAL_CALLS]
 
+    def take(self, number, line):
+        name, _, given = line[3:].partition(" ")
+        try:
+            getattr(self, "take_" + name)(given)
+        except (AttributeError, IndexError, ValueError) as fault:
+            raise Malformed(f"line {number}: {line}") from fault
+
     def take_limits(self, given):
-        self.limits = [int(word) for word in given.split()]
+        self.limits = words(given, (3, 4))
 
     def take_globals(self, given):
-        for word in given.split():
-            at, number = re.fullmatch(r"g(\d+)=(-?\d+)", word).groups()
+        for assignment in given.split(" "):
+            at, number = re.fullmatch(r"g([0-9]+)=(-?[0-9]+)", assignment).groups()
+            if not -(2**31) <= int(number) < 2**31:
+                raise ValueError(number)
             self.numbers[int(at)] = int(number)
 
     def take_calls(self, given):
         self.lists.append(expanded(given))
 
     def take_cells(self, given):
-        self.cells = [int(word) for word in given.split()]
+        self.cells = words(given, (2,))
 
     def take_names(self, given):
-        self.names = [int(word) for word in given.split()]
+        self.names = words(given, (2,))
+
+
+def word(text):
+    if not re.fullmatch("[0-9]+", text) or int(text) >= 2**32:
+        raise ValueError(text)
+    return int(text)
+
+
+def words(given, counts):
+    made = [word(text) for text in given.split(" ")]
+    if len(made) not in counts:
+        raise ValueError(given)
+    return made
 
 
 def expanded(given):
     calls = []
     for group in given.split(", "):
         count, _, body = group.rpartition("*")
-        calls += [call for part in body.split("+") for call in each_index(part)] * int(count or 1)
+        calls += [call for part in body.split("+") for call in each_index(part)] * word(count or "1")
     return calls
 
 
 def each_index(call):
-    ranged = re.fullmatch(r"(look|force) (\d+)-(\d+)", call)
-    if not ranged:
-        return [call]
-    word, first, last = ranged.groups()
-    return [f"{word} {index}" for index in range(int(first), int(last) + 1)]
+    """The calls that one stands for."""
+    name, *given = call.split(" ")
+    if (name, len(given)) in (("look", 1), ("force", 1)):
+        first, _, last = given[0].partition("-")
+        return [f"{name} {index}" for index in range(word(first), word(last or first) + 1)]
+    if (name, len(given)) not in (("run", 2), ("tally", 0)):
+        raise ValueError(call)
+    return [" ".join([name, *(str(word(text)) for text in given)])]
 
 
 def bottom(depth, names):
@@ -121,18 +140,57 @@ def limits_of(trial, makes):
     frames, winds, frame_names, *others = trial.limits
     frame_store = makes[0](frames, frame_names)
     wind_store = makes[1](winds, (others or [frame_names])[0])
-    limits = evaluate.Limits(frame_store[0], wind_store[0], frame_store[1], wind_store[1], frame_store[2], wind_store[2])
-    limits.unfit = limits.unfit or trial.cells != [0, 0] or trial.names != [0, 0]
-    return limits
+    return evaluate.Limits(frame_store[0], wind_store[0], frame_store[1], wind_store[1], frame_store[2], wind_store[2])
 
 
-def told(trial, code, makes, calls):
+class FilledRun(evaluate.Run):
+    """A run on stores of which one had a cell or held a name: it has ended as it was opened, and tells the cells."""
+
+    def __init__(self, code, numbers, limits, cells):
+        limits.unfit = True
+        super().__init__(code, numbers, limits)
+        self.in_frames, self.in_winds = cells_within(cells[0], limits.frames), cells_within(cells[1], limits.winds)
+
+    def look(self, index):
+        return cell_of(self.in_frames, index)
+
+    def force(self, index):
+        return cell_of(self.in_winds, index)
+
+
+def cells_within(wanted, depth):
+    return [[STRANGE] + [index] * 3 for index in range(min(wanted, depth))]
+
+
+def cell_of(cells, index):
+    return cells[index] if index < len(cells) else 23
+
+
+def opened(trial, code, limits):
+    if any(trial.cells + trial.names):
+        return FilledRun(code, trial.numbers, limits, trial.cells)
+    return evaluate.Run(code, trial.numbers, limits)
+
+
+def told(trial, code, limits, calls):
     """What a run answers, a line for each call, and the level of its end if that is a full store's."""
-    run = evaluate.Run(code, trial.numbers, limits_of(trial, makes))
+    run = opened(trial, code, limits)
     answers = list(evaluate.transcript(run, calls))
     if run.end in (40, 41):
         answers.append(f"level {run.level}")
     return answers
+
+
+def told_on_all(trial, code, calls):
+    """What is answered on each make. Where the limits are equal the answers are, so they are reckoned once."""
+    texts, reckoned = {}, {}
+    for name, makes in STORES.items():
+        limits = limits_of(trial, makes)
+        same = tuple(vars(limits).values())
+        if same not in reckoned:
+            reckoned[same] = told(trial, code, limits, calls)
+        texts[name] = reckoned[same]
+    return texts
 
 
 def together(texts):
@@ -151,9 +209,12 @@ def expected(name, sheet):
         code = evaluate.read(sheet)
     except evaluate.SheetRefused as refused:
         return lines + [f"sheet {refused.number} line {refused.line}"]
-    trial = Trial(sheet)
+    try:
+        trial = Trial(sheet)
+    except Malformed as malformed:
+        sys.exit(f"{name}, {malformed}")
     for calls in trial.lists:
-        lines += together({name: told(trial, code, makes, calls) for name, makes in STORES.items()})
+        lines += together(told_on_all(trial, code, calls))
     return lines
 
 

@@ -27,6 +27,7 @@ pub struct Caller {
 }
 
 impl Caller {
+    /// A caller whose calls follow from a number.
     pub fn new(start: u64) -> Self {
         Caller { state: start }
     }

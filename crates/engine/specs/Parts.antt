@@ -21,6 +21,7 @@ use Rattle.held.specs.declared.held_row.HeldRow.{HeldRow}
 use Rattle.laws.specs.Rows.{joined}
 use Rattle.engine.specs.declared.counters.Counters.{Counters}
 
+-- an engine, as contracts see it
 pub record Parts : Type 0 where
   pub registers : List Value
   pub globals : List Value

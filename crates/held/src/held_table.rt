@@ -3,6 +3,7 @@ ghost use Rattle.std.specs.Prelude.{◌≡◌, ◌≤◌, [], length, map, rever
 ghost use Rattle.cell.specs.Elements.{frame_in};
 ghost use Rattle.machine.specs.Apply.{marked_in};
 ghost use Rattle.machine.specs.Named.{find as found, without, changed_all};
+ghost use Rattle.machine.specs.Opening.{most_held};
 ghost use Rattle.held.specs.Rows.{row_name, for_many, appended};
 
 use crate::full::Full;
@@ -46,7 +47,7 @@ impl HeldTable {
     /// How many names are held.
     pub fn len(&self) -> usize
         ensures value { result ≡ length self.now }
-        ensures within { result ≤ ROWS }
+        ensures within { result ≤ most_held }
     {
         self.rows.len()
     }
@@ -60,7 +61,7 @@ impl HeldTable {
 
     /// Adds a row behind the others.
     pub fn add(&mut self, row: HeldRow) -> Result<(), Full>
-        ensures { (result, self.new) ≡ appended ROWS self.old row }
+        ensures { (result, self.new) ≡ appended most_held self.old row }
     {
         self.rows.try_push(row).map_err(|_| Full)
     }

@@ -26,13 +26,15 @@ pub record Example : Type 0 where
   pub calls : List Call
   pub told : List (List ℕ)
 
--- a register, a global and an address, by its number
+-- a register, by its number
 abbrev r : ℕ → Register
 r i = record { 0 = i }
 
+-- a global, by its number
 abbrev g : ℕ → Global
 g i = record { 0 = i }
 
+-- an address, by its number
 abbrev at : ℕ → Address
 at i = record { 0 = i }
 
@@ -48,8 +50,7 @@ holding words = record { cells = map (λ w. filled (w ∷ [])) words; names = 0;
 abbrev called : ℕ → ℕ → Call
 called budget size = run budget (replicate size 0)
 
--- the words of an answer
-
+-- the level of the limit that an end tells, if it is that of a full list
 abbrev level_words : End → List ℕ
 level_words Finished = []
 level_words WrongKind = []
@@ -63,35 +64,42 @@ level_words HeldLimit = []
 level_words UnfitStores = []
 level_words StepLimit = []
 
+-- how a run ended: the number of the end, the last address, and the level; nothing of a run that goes on
 abbrev ending_words : Option Ending → List ℕ
 ending_words None = []
 ending_words (Some e) = end_number e.end ∷ e.address.0 ∷ level_words e.end
 
+-- the figures of a tally: steps, those of names and those of winds, and then how the run ended
 abbrev tally_words : Tally → List ℕ
 tally_words t =
     t.steps ∷ t.names.made ∷ t.names.used ∷ t.names.forgotten ∷ t.names.held
     ∷ t.winds.entered ∷ t.winds.left ∷ t.winds.current ∷ ending_words t.ending
 
+-- what a run call answers: steps, bytes and reason, and the bytes that it wrote; or the number of its refusal
 abbrev run_words : Result Progress RunRefusal → List ℕ → List ℕ
 run_words (Ok p) buffer = p.steps ∷ p.bytes ∷ reason_number p.reason ∷ take p.bytes buffer
 run_words (Err e) buffer = run_refusal_number e ∷ []
 
+-- what look and force answer: the words of a cell, or the number of the refusal
 abbrev index_words : Result Cell IndexRefusal → List ℕ
 index_words (Ok c) = c.words
 index_words (Err e) = index_refusal_number e ∷ []
 
+-- the words of an answer
 abbrev words : Answer → List ℕ
 words (to_run answer buffer) = run_words answer buffer
 words (to_tally t) = tally_words t
 words (to_look answer) = index_words answer
 words (to_force answer) = index_words answer
 
+-- whether two lists of words are the same
 abbrev same : List ℕ → List ℕ → Bool
 same [] [] = true
 same [] (y ∷ ys) = false
 same (x ∷ xs) [] = false
 same (x ∷ xs) (y ∷ ys) = x == y && same xs ys
 
+-- whether two lists of answers have the same words
 abbrev all_same : List (List ℕ) → List (List ℕ) → Bool
 all_same [] [] = true
 all_same [] (y ∷ ys) = false
@@ -102,10 +110,12 @@ all_same (x ∷ xs) (y ∷ ys) = same x y && all_same xs ys
 abbrev pub right : Example → Bool
 right e = all_same (map words (served (opened e.code (replicate 32 (pos 0)) e.frames e.winds) e.calls).0) e.told
 
+-- so do all of these
 abbrev pub all_right : List Example → Bool
 all_right [] = true
 all_right (e ∷ es) = right e && all_right es
 
+-- the table; an independent evaluator told what each call is to tell
 abbrev pub examples : List Example
 examples =
     -- numbers, a value on the frames, a call and a tail call

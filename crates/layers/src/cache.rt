@@ -29,7 +29,8 @@ impl<S: Store> Cache<S> {
     pub fn new(below: S) -> Self
         ensures below { result.below ≡ below }
         ensures empty { result.cells.items ≡ [] }
-        ensures call { topped result.cells.items (S.Store.meaning result.below) ≡ raised (S.Store.meaning below) }
+        ensures meaning { ⟦<Cache<S> as Store>⟧.meaning result ≡ raised (S.Store.meaning below) }
+        ensures memory { ⟦<Cache<S> as Store>⟧.fixed result ≡ S.Store.fixed below }
     {
         Cache {
             below,

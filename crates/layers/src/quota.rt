@@ -15,10 +15,12 @@ pub struct Quota<S> {
     quota: u32,
 }
 
-impl<S> Quota<S> {
+impl<S: Store> Quota<S> {
     /// A quota over a store.
     pub fn new(below: S, quota: u32) -> Self
-        ensures { (result.below ≡ below) × (result.quota ≡ quota) }
+        ensures parts { (result.below ≡ below) × (result.quota ≡ quota) }
+        ensures meaning { ⟦<Quota<S> as Store>⟧.meaning result ≡ limited quota (S.Store.meaning below) }
+        ensures memory { ⟦<Quota<S> as Store>⟧.fixed result ≡ S.Store.fixed below }
     {
         Quota { below, quota }
     }

@@ -12,7 +12,7 @@ abbrev pub ok_mapped : {A B E : Type 0} → (A → B) → Result A E → Result 
 ok_mapped f (Ok a) = Ok (f a)
 ok_mapped f (Err e) = Err e
 
--- what a call that changes a state answers: that state, or why it refused
-abbrev pub after : {A E : Type 0} → Result Unit E → A → Result A E
-after (Ok u) a = Ok a
-after (Err e) a = Err e
+-- what a call that changes a state answers, and that state after it: a refusal leaves it as it was
+abbrev pub or_unchanged : {A E : Type 0} → A → Result A E → Result Unit E × A
+or_unchanged old (Ok new) = (Ok tt, new)
+or_unchanged old (Err e) = (Err e, old)

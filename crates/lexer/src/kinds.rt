@@ -10,6 +10,7 @@ const FIRST_PRINTABLE: u8 = b' ';
 
 const LAST_PRINTABLE: u8 = b'~';
 
+/// Which kind a line is of, by its first byte.
 pub fn kind(line: &[u8]) -> Line<'_>
     ensures { kind_of result ≡ kinds line.now }
 {

@@ -22,6 +22,7 @@ impl<'a> Model for Lines<'a> {
 }
 
 impl<'a> Lines<'a> {
+    /// All lines of a sheet.
     pub fn new(sheet: &'a [u8]) -> Self
         ensures { result ≡ lines sheet.now }
     {

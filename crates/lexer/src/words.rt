@@ -32,6 +32,7 @@ impl<'a> Model for Words<'a> {
 }
 
 impl<'a> Words<'a> {
+    /// All words of a line.
     pub fn new(line: &'a [u8]) -> Self
         ensures words { words_left result ≡ words line.now }
         ensures starts { result ≡ placed 0 (words line.now) }

@@ -112,8 +112,3 @@ reading sheet =
     cond (nat_le (length sheet) 16384)
     (assembled empty 1 (lines sheet) >>= λ a. resolved_onto [] a.labels a.drafts >>= not_empty)
     (Err TooLong)
-
--- what reading answers, and the code table after it: a refusal leaves the table as it was
-abbrev pub read_into : List Instruction → Result (List Instruction) SheetRefusal → Result Unit SheetRefusal × List Instruction
-read_into old (Ok new) = (Ok tt, new)
-read_into old (Err e) = (Err e, old)

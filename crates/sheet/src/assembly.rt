@@ -1,6 +1,6 @@
 //! The tables that a sheet is read into, line by line.
 ghost use Rattle.std.specs.Prelude.{◌≡◌, ◌≤◌, length};
-ghost use Rattle.lexer.specs.Checks.{after};
+ghost use Rattle.lexer.specs.Checks.{or_unchanged};
 ghost use Rattle.lexer.specs.Names.{label_name};
 ghost use Rattle.sheet.specs.Assembly.{empty, defined, added, line_taken};
 
@@ -37,6 +37,7 @@ impl Model for Assembly {
 }
 
 impl Assembly {
+    /// Tables with nothing in them.
     pub fn new() -> Self
         ensures { result ≡ empty }
     {
@@ -64,7 +65,7 @@ impl Assembly {
 
     /// Defines a label at the place of the next instruction.
     fn define(&mut self, bytes: &[u8]) -> Result<(), Fault>
-        ensures { after result self.new ≡ defined self.old (label_name bytes.now) }
+        ensures { (result, self.new) ≡ or_unchanged self.old (defined self.old (label_name bytes.now)) }
     {
         let name = name(bytes).ok_or(Fault::BadLabel)?;
         if target(&self.labels, name).is_some() {
@@ -77,16 +78,16 @@ impl Assembly {
     }
 
     fn add(&mut self, line: u32, unresolved: Unresolved) -> Result<(), Fault>
-        ensures { after result self.new ≡ added self.old line unresolved }
+        ensures { (result, self.new) ≡ or_unchanged self.old (added self.old line unresolved) }
     {
         self.drafts
             .try_push(Draft { unresolved, line })
             .map_err(|_| Fault::TooManyInstructions)
     }
 
-    /// Takes in one more line, of this number.
+    /// Takes in one more line, of this number; a refused line leaves the tables as they were.
     pub fn take_line(&mut self, number: u32, line: &[u8]) -> Result<(), Fault>
-        ensures { after result self.new ≡ line_taken self.old number line.now }
+        ensures { (result, self.new) ≡ or_unchanged self.old (line_taken self.old number line.now) }
     {
         if !printable(line) {
             return Err(Fault::BadByte);

@@ -53,6 +53,7 @@ const VOCABULARY: [Mnemonic; 20] = [
 impl Mnemonic {
     ghost use Rattle.sheet.specs.Words.{spelling as spellings, arity as arities, mnemonic as mnemonics};
 
+    /// How a word is spelled.
     pub fn spelling(self) -> &'static [u8]
         ensures { result.now ≡ spellings self }
     {

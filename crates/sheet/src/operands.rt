@@ -25,18 +25,21 @@ fn lettered(letter: u8, limit: u8, word: &[u8]) -> Result<u8, Fault>
     }
 }
 
+/// A register: `r` and its number.
 pub fn register(word: &[u8]) -> Result<Register, Fault>
     ensures { result ≡ registers_read word.now }
 {
     lettered(b'r', REGISTERS, word).map(Register)
 }
 
+/// A global: `g` and its number.
 pub fn global(word: &[u8]) -> Result<Global, Fault>
     ensures { result ≡ globals_read word.now }
 {
     lettered(b'g', GLOBALS, word).map(Global)
 }
 
+/// The name of a label.
 pub fn label(word: &[u8]) -> Result<LabelName, Fault>
     ensures { result ≡ labels_read word.now }
 {

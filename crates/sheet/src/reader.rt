@@ -1,7 +1,8 @@
 //! Reading a whole sheet.
 ghost use Rattle.std.specs.Prelude.{◌≡◌, ◌≤◌, length};
 ghost use Rattle.sheet.specs.Assembly.{empty};
-ghost use Rattle.sheet.specs.Reading.{assembled, reading, read_into};
+ghost use Rattle.sheet.specs.Reading.{assembled, reading};
+ghost use Rattle.lexer.specs.Checks.{or_unchanged};
 ghost use Rattle.lexer.specs.Split.{lines};
 
 use crate::assembly::Assembly;
@@ -43,7 +44,7 @@ fn code(sheet: &[u8]) -> Result<Code, SheetRefusal>
 
 /// Reads a sheet into a code table, which a refused sheet leaves as it was.
 pub fn read(table: &mut Code, sheet: &[u8]) -> Result<(), SheetRefusal>
-    ensures { (result, table.new) ≡ read_into table.old (reading sheet.now) }
+    ensures { (result, table.new) ≡ or_unchanged table.old (reading sheet.now) }
 {
     *table = code(sheet)?;
     Ok(())

@@ -1,5 +1,5 @@
 //! The worked sheets: one table, from the text of each sheet to what its run comes to, computed by the definitions of
-//! reading and of the machine. It rests on `sheet`, `machine`, `code`, `store` and `cell`.
+//! reading and of the machine. It rests on `sheet`, `machine` and `code`.
 #![tactic(auto)]
 
 ghost use Rattle.worked.specs.Rows.{AsTold};

@@ -1,5 +1,5 @@
 //! The calls on a copied stack.
-ghost use Rattle.std.specs.Prelude.{◌≡◌, ◌*◌, ◌<◌, ◌≤◌, length};
+ghost use Rattle.std.specs.Prelude.{◌≡◌, ◌*◌, ◌<◌, ◌≤◌, drop, length};
 ghost use Rattle.store.specs.Meaning.{with_current};
 ghost use Rattle.bottom.specs.Limits.{accepted, cells_needed, split_at};
 ghost use Rattle.bottom.specs.Meant.{opened};
@@ -33,9 +33,10 @@ impl Copied {
         }
     }
 
-    /// Ends the store, and hands the memory back.
+    /// Ends the store, and hands the memory back. Beyond the need it is as it was given.
     pub fn into_memory(self) -> Vec<u32>
-        ensures { result ≡ self.memory }
+        ensures memory { result ≡ self.memory }
+        ensures beyond { fixed_of self ≡ ((fixed_of self).0, drop (fixed_of self).0 result.items) }
     {
         let Copied {
             memory,

@@ -1,5 +1,5 @@
 //! The calls on a linked store.
-ghost use Rattle.std.specs.Prelude.{◌≡◌, true, length};
+ghost use Rattle.std.specs.Prelude.{◌≡◌, true, drop, length};
 ghost use Rattle.store.specs.Meaning.{cell_in};
 ghost use Rattle.bottom.specs.Limits.{accepted, cells_needed, split_at};
 ghost use Rattle.bottom.specs.Meant.{opened};
@@ -34,9 +34,10 @@ impl Linked {
         }
     }
 
-    /// Ends the store, and hands the memory back.
+    /// Ends the store, and hands the memory back. Beyond the need it is as it was given.
     pub fn into_memory(self) -> Vec<Node>
-        ensures { result ≡ self.pool.nodes }
+        ensures memory { result ≡ self.pool.nodes }
+        ensures beyond { fixed_of self ≡ ((fixed_of self).0, drop (fixed_of self).0 result.items) }
     {
         let Linked {
             pool: Pool { nodes, free: _ },
