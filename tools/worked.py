@@ -48,6 +48,10 @@ SHEETS = [
     ("a pop finds a frame that is no value", "proc r1 f/call r1/:f/pop r2", USUAL),
     ("a return to a pushed value", "push r0/ret", USUAL),
     ("a kind that is no number", "proc r1 f/:f/print r1", USUAL),
+    ("a frame store that is too low", "stop", (15, 16, 7)),
+    ("a wind store that is too low", "stop", (48, 3, 7)),
+    ("stores for one name", "stop", (48, 16, 1)),
+    ("the least limits", "stop", (16, 4, 2)),
 ]
 
 

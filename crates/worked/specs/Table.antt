@@ -77,4 +77,16 @@ table =
     -- a kind that is no number
     row (sheet "proc r1 f/:f/print r1") (limits 48 16 7)
     (figures (sheet "") 30 1 0 0) ∷
+    -- a frame store that is too low
+    row (sheet "stop") (limits 15 16 7)
+    (figures (sheet "") 43 0 0 0) ∷
+    -- a wind store that is too low
+    row (sheet "stop") (limits 48 3 7)
+    (figures (sheet "") 43 0 0 0) ∷
+    -- stores for one name
+    row (sheet "stop") (limits 48 16 1)
+    (figures (sheet "") 43 0 0 0) ∷
+    -- the least limits
+    row (sheet "stop") (limits 16 4 2)
+    (figures (sheet "") 0 1 0 0) ∷
     []
