@@ -5,9 +5,10 @@
   tools/planted.py --tests CRATE [BUG..]      runs the programs and the tests with each bug, unproved
   tools/planted.py --definition [BUG..]       plants errors in the definition of the machine, and tries its laws and its examples
 
-The bugs of a crate stand in tools/bugs/CRATE.txt, those of the definition in tools/bugs/definition.txt, a block each: a line `bug: NAME`, a line `about:` that says in plain words
-what is wrong, `file:` (from the crate's folder on), and pairs of `old:` and `new:`, as in a must-fail edit. Each is planted in
-a copy of the repository; nothing is changed here. A line of the table is printed for each.
+The bugs of a crate stand in tools/bugs/CRATE.txt, those of the definition in tools/bugs/definition.txt, a block each: a line
+`bug: NAME`, a line `about:` that says in plain words what is wrong, `file:` (from the crate's folder on), and pairs of `old:`
+and `new:`, as in a must-fail edit. Each is planted in a copy of the repository; nothing is changed here. A line of the table
+is printed for each. The prover takes up to a minute a bug, and the tests two or three.
 """
 import re
 import shutil
