@@ -10,11 +10,9 @@ use crate::full::Full;
 use crate::held_row::HeldRow;
 use crate::marks::marked;
 use arrayvec::ArrayVec;
-use cell::frame::Frame;
 use cell::name::Name;
 use std::marker::Model;
 use store::store::Store;
-use store::typed::Typed;
 
 /// How many rows a table has room for: as many names as a run may hold, whatever its stores may.
 pub const ROWS: usize = 64;
@@ -76,16 +74,16 @@ impl HeldTable {
     }
 
     /// Marks as many each row whose name has a Mark in the frames. These are asked only for a row that is still once.
-    pub fn promote<F: Store>(&mut self, frames: &Typed<F, Frame>)
-        ensures { self.new ≡ changed_all row_name (marked_in (reverse frames.now.list.current)) for_many self.old }
+    pub fn promote<F: Store>(&mut self, frames: &F)
+        ensures { self.new ≡ changed_all row_name (marked_in (reverse (map frame_in (F.meaning frames.now).current))) for_many self.old }
     {
         promote_each(self.rows.as_mut_slice(), frames);
     }
 }
 
 /// The same of each row of a slice.
-fn promote_each<F: Store>(rows: &mut [HeldRow], frames: &Typed<F, Frame>)
-    ensures { rows.new ≡ changed_all row_name (marked_in (reverse frames.now.list.current)) for_many rows.old }
+fn promote_each<F: Store>(rows: &mut [HeldRow], frames: &F)
+    ensures { rows.new ≡ changed_all row_name (marked_in (reverse (map frame_in (F.meaning frames.now).current))) for_many rows.old }
 {
     for row in rows.iter_mut() {
         if row.once && marked(frames, row.name) {

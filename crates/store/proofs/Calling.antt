@@ -10,9 +10,9 @@ use Rattle.store.specs.Meaning.{Meaning, Outcome, popped}
 use Rattle.store.specs.Typed.{read_as, answer_as, refused_as, refused_of, outcome_as, Written}
 use Rattle.store.proofs.Typing.{left_as, popped_as}
 
--- a question: `told` is the store's answer, `r` the list's
-pub asked_as : {X Y E : Type 0} (h : Result X Refusal → Result Y Refusal) (told asked : Result X Refusal) (at : Result Y Refusal) (r : Result Y (Refused E)) → r ≡ refused_as refused_of (h told) → told ≡ asked → h asked ≡ at → r ≡ refused_as refused_of at
-asked_as h told asked at r is made same = is ∙ ap (λ t. refused_as refused_of (h t)) made ∙ ap (refused_as refused_of) same
+-- a question: `told` is the store's answer, `r` the list's, whatever a refusal is put in
+pub asked_as : {X Y R : Type 0} (wrap : Refusal → R) (h : Result X Refusal → Result Y Refusal) (told asked : Result X Refusal) (at : Result Y Refusal) (r : Result Y R) → r ≡ refused_as wrap (h told) → told ≡ asked → h asked ≡ at → r ≡ refused_as wrap at
+asked_as wrap h told asked at r is made same = is ∙ ap (λ t. refused_as wrap (h t)) made ∙ ap (refused_as wrap) same
 
 -- what a `?` hands on is the refusal of the list
 pub refusal_told : {X Y E : Type 0} (told : Result X Refusal) (e : Refusal) (r : Result Y (Refused E)) → told ≡ Err e → IsErrAnd r (λ y. y ≡ refused_of e) → (h : Result X Refusal → Result Y Refusal) → h (Err e) ≡ Err e → r ≡ refused_as refused_of (h told)
@@ -28,19 +28,19 @@ module _ {E : Type 0} (read : Cell → E) (words : E → List ℕ) (m left : Mea
 
   -- a call that is the same at every kind of cell
   module _ {X : Type 0} (told : Result X Refusal) (op : (A : Type 0) → Meaning A → Outcome A X) (same : (A B : Type 0) (f : A → B) (n : Meaning A) → left_as f (op A n) ≡ op B (read_as f n)) (made : (told, left) ≡ op Cell m) where
-    pub call_as : (r : Result X (Refused E)) → r ≡ refused_as refused_of told → (r, read_as read left) ≡ outcome_as refused_of (op E (read_as read m))
-    call_as r is =
+    pub call_as : {R : Type 0} (wrap : Refusal → R) (r : Result X R) → r ≡ refused_as wrap told → (r, read_as read left) ≡ outcome_as wrap (op E (read_as read m))
+    call_as wrap r is =
         ap (λ x. (x, read_as read left)) is
-        ∙ ap (λ o. outcome_as refused_of (left_as read o)) made
-        ∙ ap (outcome_as refused_of) (same Cell E read m)
+        ∙ ap (λ o. outcome_as wrap (left_as read o)) made
+        ∙ ap (outcome_as wrap) (same Cell E read m)
 
     -- refused, and handed on by `?`
     pub call_refused : (e : Refusal) (r : Result X (Refused E)) → told ≡ Err e → IsErrAnd r (λ y. y ≡ refused_of e) → (r, read_as read left) ≡ outcome_as refused_of (op E (read_as read m))
-    call_refused e r was is = call_as r (refusal_told told e r was is (λ x. x) refl)
+    call_refused e r was is = call_as refused_of r (refusal_told told e r was is (λ x. x) refl)
 
     -- accepted
     pub call_done : (x : X) → told ≡ Ok x → ◌≡◌ {A = Result X (Refused E) × Meaning E} (Ok x, read_as read left) (outcome_as refused_of (op E (read_as read m)))
-    call_done x was = call_as (Ok x) (ap (refused_as (refused_of {E = E})) (sym was))
+    call_done x was = call_as refused_of (Ok x) (ap (refused_as (refused_of {E = E})) (sym was))
 
     pub call_written : Written read words m → Written read words left
     call_written h =
@@ -51,11 +51,11 @@ module _ {E : Type 0} (read : Cell → E) (words : E → List ℕ) (m left : Mea
 
   -- a pop, whose answer is a cell
   module _ (told : Result Cell Refusal) (made : (told, left) ≡ popped m) where
-    pub pop_as : (r : Result E (Refused E)) → r ≡ refused_as refused_of (answer_as read told) → (r, read_as read left) ≡ outcome_as refused_of (popped (read_as read m))
-    pop_as r is =
+    pub pop_as : {R : Type 0} (wrap : Refusal → R) (r : Result E R) → r ≡ refused_as wrap (answer_as read told) → (r, read_as read left) ≡ outcome_as wrap (popped (read_as read m))
+    pop_as wrap r is =
         ap (λ x. (x, read_as read left)) is
-        ∙ ap (λ o. outcome_as refused_of (answer_as read o.0, read_as read o.1)) made
-        ∙ ap (outcome_as refused_of) (popped_as read m)
+        ∙ ap (λ o. outcome_as wrap (answer_as read o.0, read_as read o.1)) made
+        ∙ ap (outcome_as wrap) (popped_as read m)
 
     pub pop_written : Written read words m → Written read words left
     pop_written h =

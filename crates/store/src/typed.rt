@@ -1,7 +1,9 @@
 //! A store as a list of elements of one kind: one text for every store and every kind.
 
-ghost use Rattle.std.specs.Prelude.{◌≡◌, length};
+ghost use Rattle.std.specs.Prelude.{◌≡◌, length, map};
 ghost use Rattle.store.specs.Meaning.{pushed, popped, saved, restored, taken, released, cell_in, saved_length, saved_cell_in, top as uppermost};
+ghost use Rattle.std.specs.Borrow.{Lends, sem};
+ghost use Rattle.store.specs.contracts.typed.Typed.{the_row};
 ghost use Rattle.store.specs.Typed.{refused_as, refused_of, outcome_as, read_as, Written};
 
 use crate::refused::Refused;
@@ -9,6 +11,92 @@ use crate::store::Store;
 use cell::element::Element;
 use cell::name::Name;
 use std::marker::{Model, PhantomData};
+
+// Each call below is the call of the same name on the store, at elements; the store is only lent. `Typed` has the same calls on a store of its own.
+
+/// Adds an element on top.
+pub fn push<S: Store, E: Element>(store: &mut S, element: E) -> Result<(), Refused<E>>
+    ensures call { (result, read_as E.read (S.meaning store.new)) ≡ outcome_as refused_of (pushed (read_as E.read (S.meaning store.old)) element) }
+    ensures written { Written E.read E.written (S.meaning store.old) → Written E.read E.written (S.meaning store.new) }
+    ensures memory { S.fixed store.new ≡ S.fixed store.old }
+{
+    Ok(store.push(element.to_cell())?)
+}
+
+/// Removes and answers the element on top.
+pub fn pop<S: Store, E: Element>(store: &mut S) -> Result<E, Refused<E>>
+    ensures call { (result, read_as E.read (S.meaning store.new)) ≡ outcome_as refused_of (popped (read_as E.read (S.meaning store.old))) }
+    ensures written { Written E.read E.written (S.meaning store.old) → Written E.read E.written (S.meaning store.new) }
+    ensures memory { S.fixed store.new ≡ S.fixed store.old }
+{
+    Ok(E::from_cell(store.pop()?))
+}
+
+/// Keeps the current list under a name.
+pub fn save<S: Store, E: Element>(store: &mut S, name: Name) -> Result<(), Refused<E>>
+    ensures call { (result, read_as E.read (S.meaning store.new)) ≡ outcome_as refused_of (saved (read_as E.read (S.meaning store.old)) name.0) }
+    ensures written { Written E.read E.written (S.meaning store.old) → Written E.read E.written (S.meaning store.new) }
+    ensures memory { S.fixed store.new ≡ S.fixed store.old }
+{
+    Ok(store.save(name)?)
+}
+
+/// Makes the list saved under a name current.
+pub fn restore<S: Store, E: Element>(store: &mut S, name: Name) -> Result<(), Refused<E>>
+    ensures call { (result, read_as E.read (S.meaning store.new)) ≡ outcome_as refused_of (restored (read_as E.read (S.meaning store.old)) name.0) }
+    ensures written { Written E.read E.written (S.meaning store.old) → Written E.read E.written (S.meaning store.new) }
+    ensures memory { S.fixed store.new ≡ S.fixed store.old }
+{
+    Ok(store.restore(name)?)
+}
+
+/// As restore, and lets the name go.
+pub fn take<S: Store, E: Element>(store: &mut S, name: Name) -> Result<(), Refused<E>>
+    ensures call { (result, read_as E.read (S.meaning store.new)) ≡ outcome_as refused_of (taken (read_as E.read (S.meaning store.old)) name.0) }
+    ensures written { Written E.read E.written (S.meaning store.old) → Written E.read E.written (S.meaning store.new) }
+    ensures memory { S.fixed store.new ≡ S.fixed store.old }
+{
+    Ok(store.take(name)?)
+}
+
+/// Lets a name go.
+pub fn release<S: Store, E: Element>(store: &mut S, name: Name) -> Result<(), Refused<E>>
+    ensures call { (result, read_as E.read (S.meaning store.new)) ≡ outcome_as refused_of (released (read_as E.read (S.meaning store.old)) name.0) }
+    ensures written { Written E.read E.written (S.meaning store.old) → Written E.read E.written (S.meaning store.new) }
+    ensures memory { S.fixed store.new ≡ S.fixed store.old }
+{
+    Ok(store.release(name)?)
+}
+
+/// Answers the element on top, if there is any.
+pub fn top<S: Store, E: Element>(store: &S) -> Option<E>
+    ensures { result ≡ uppermost (map E.read (S.meaning store.now).current) }
+{
+    let index = store.len().checked_sub(1)?;
+    let cell = store.cell_at(index).ok()?;
+    Some(E::from_cell(cell))
+}
+
+/// Answers the element at an index of the current list.
+pub fn at<S: Store, E: Element>(store: &S, index: u32) -> Result<E, Refused<E>>
+    ensures { result ≡ refused_as refused_of (cell_in (map E.read (S.meaning store.now).current) index) }
+{
+    Ok(E::from_cell(store.cell_at(index)?))
+}
+
+/// Answers the length of the list that is saved under a name.
+pub fn saved_len<S: Store, E: Element>(store: &S, name: Name) -> Result<u32, Refused<E>>
+    ensures { result ≡ refused_as refused_of (saved_length (read_as E.read (S.meaning store.now)) name.0) }
+{
+    Ok(store.saved_len(name)?)
+}
+
+/// Answers the element at an index of the list that is saved under a name.
+pub fn saved_at<S: Store, E: Element>(store: &S, name: Name, index: u32) -> Result<E, Refused<E>>
+    ensures { result ≡ refused_as refused_of (saved_cell_in (read_as E.read (S.meaning store.now)) name.0 index) }
+{
+    Ok(E::from_cell(store.saved_cell(name, index)?))
+}
 
 /// A store, each cell of which is read as an element. Each call is the call of the same name on the store, at elements.
 /// What a call keeps is two clauses in each: one name for both would take four functions of the two bounds.
@@ -56,13 +144,22 @@ impl<S: Store, E: Element> Typed<S, E> {
         &self.store
     }
 
+    /// The store, lent. The list is then what is left in the store, each cell read.
+    pub fn store_mut(&mut self) -> &mut S
+        ensures* writes_back { sem 𝓛 (Lends (the_row S.row E.row S.Slot.row S.Store E.Element) S.row self.entry result (λ s. record { store = s; list = read_as E.read (S.meaning s) })) }
+        ensures store { result.now ≡ self.old.store }
+        ensures list { self.old.list ≡ read_as E.read (S.meaning self.old.store) }
+    {
+        &mut self.store
+    }
+
     /// Adds an element on top.
     pub fn push(&mut self, element: E) -> Result<(), Refused<E>>
         ensures call { (result, self.new.list) ≡ outcome_as refused_of (pushed self.old.list element) }
         ensures written { Written E.read E.written (S.meaning self.old.store) → Written E.read E.written (S.meaning self.new.store) }
         ensures memory { S.fixed self.new.store ≡ S.fixed self.old.store }
     {
-        Ok(self.store.push(element.to_cell())?)
+        push(&mut self.store, element)
     }
 
     /// Removes and answers the element on top.
@@ -71,7 +168,7 @@ impl<S: Store, E: Element> Typed<S, E> {
         ensures written { Written E.read E.written (S.meaning self.old.store) → Written E.read E.written (S.meaning self.new.store) }
         ensures memory { S.fixed self.new.store ≡ S.fixed self.old.store }
     {
-        Ok(E::from_cell(self.store.pop()?))
+        pop(&mut self.store)
     }
 
     /// Keeps the current list under a name.
@@ -80,7 +177,7 @@ impl<S: Store, E: Element> Typed<S, E> {
         ensures written { Written E.read E.written (S.meaning self.old.store) → Written E.read E.written (S.meaning self.new.store) }
         ensures memory { S.fixed self.new.store ≡ S.fixed self.old.store }
     {
-        Ok(self.store.save(name)?)
+        save(&mut self.store, name)
     }
 
     /// Makes the list saved under a name current.
@@ -89,7 +186,7 @@ impl<S: Store, E: Element> Typed<S, E> {
         ensures written { Written E.read E.written (S.meaning self.old.store) → Written E.read E.written (S.meaning self.new.store) }
         ensures memory { S.fixed self.new.store ≡ S.fixed self.old.store }
     {
-        Ok(self.store.restore(name)?)
+        restore(&mut self.store, name)
     }
 
     /// As restore, and lets the name go.
@@ -98,7 +195,7 @@ impl<S: Store, E: Element> Typed<S, E> {
         ensures written { Written E.read E.written (S.meaning self.old.store) → Written E.read E.written (S.meaning self.new.store) }
         ensures memory { S.fixed self.new.store ≡ S.fixed self.old.store }
     {
-        Ok(self.store.take(name)?)
+        take(&mut self.store, name)
     }
 
     /// Lets a name go.
@@ -107,37 +204,35 @@ impl<S: Store, E: Element> Typed<S, E> {
         ensures written { Written E.read E.written (S.meaning self.old.store) → Written E.read E.written (S.meaning self.new.store) }
         ensures memory { S.fixed self.new.store ≡ S.fixed self.old.store }
     {
-        Ok(self.store.release(name)?)
+        release(&mut self.store, name)
     }
 
     /// Answers the element on top, if there is any.
     pub fn top(&self) -> Option<E>
         ensures { result ≡ uppermost self.now.list.current }
     {
-        let index = self.store.len().checked_sub(1)?;
-        let cell = self.store.cell_at(index).ok()?;
-        Some(E::from_cell(cell))
+        top(&self.store)
     }
 
     /// Answers the element at an index of the current list.
     pub fn at(&self, index: u32) -> Result<E, Refused<E>>
         ensures { result ≡ refused_as refused_of (cell_in self.now.list.current index) }
     {
-        Ok(E::from_cell(self.store.cell_at(index)?))
+        at(&self.store, index)
     }
 
     /// Answers the length of the list that is saved under a name.
     pub fn saved_len(&self, name: Name) -> Result<u32, Refused<E>>
         ensures { result ≡ refused_as refused_of (saved_length self.now.list name.0) }
     {
-        Ok(self.store.saved_len(name)?)
+        saved_len(&self.store, name)
     }
 
     /// Answers the element at an index of the list that is saved under a name.
     pub fn saved_at(&self, name: Name, index: u32) -> Result<E, Refused<E>>
         ensures { result ≡ refused_as refused_of (saved_cell_in self.now.list name.0 index) }
     {
-        Ok(E::from_cell(self.store.saved_cell(name, index)?))
+        saved_at(&self.store, name, index)
     }
 
     /// Answers the length of the current list.

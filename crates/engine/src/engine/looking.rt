@@ -56,7 +56,7 @@ impl<F: Store, W: Store> Engine<F, W> {
     pub fn common_winds(&self, name: Name) -> Result<u32, Refused<Wind>>
         ensures { result ≡ refused_as refused_of (common_with self.now.winds name.0) }
     {
-        common(&self.winds, name)
+        common(self.winds.store(), name)
     }
 
     /// The wind at an index of those saved under a name.

@@ -70,7 +70,7 @@ impl<F: Store, W: Store> Engine<F, W> {
     fn save(&mut self, name: Name) -> Result<(), End>
         ensures { (result, self.new) ≡ saving name self.old }
     {
-        Ok(save_both(&mut self.frames, &mut self.winds, name)?)
+        Ok(save_both(self.frames.store_mut(), self.winds.store_mut(), name)?)
     }
 
     /// Adds the row of a name.
@@ -84,7 +84,7 @@ impl<F: Store, W: Store> Engine<F, W> {
     fn promote(&mut self)
         ensures { self.new ≡ promoting self.old }
     {
-        self.held.promote(&self.frames);
+        self.held.promote(self.frames.store());
     }
 
     /// Both stores and the rows hold a name, for many throws.

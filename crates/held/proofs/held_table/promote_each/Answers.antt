@@ -1,5 +1,6 @@
 use Rattle.std.proofs.Common.{◌++◌, map, reverse, take, sym, ap, ◌∙◌, arith}
 use Rattle.std.proofs.lemmas.List.{take_all, drop_all, append-nil}
+use Rattle.cell.specs.Elements.{frame_in}
 use Rattle.machine.specs.Apply.{marked_in}
 use Rattle.machine.specs.Named.{changed}
 use Rattle.held.specs.Rows.{row_name, for_many}
@@ -9,7 +10,7 @@ use Rattle.held.proofs.held_table.promote_each.Goals.{then-row+then-marked, else
 
 pub loop-row-preserved : goal.loop-row-preserved
 loop-row-preserved g c =
-    let test = marked_in (reverse c.args.frames.now.list.current) in
+    let test = marked_in (reverse (map frame_in (g.F.Store.meaning c.args.frames.now).current)) in
     let rs = c.args.rows.now in
     let ys = c.loop-row.rows in
     let i = c.loop-row.row-index in
@@ -23,7 +24,7 @@ loop-row-preserved g c =
 
 pub returns : goal.returns
 returns g c =
-    let fs = reverse c.args.frames.now.list.current in
+    let fs = reverse (map frame_in (g.F.Store.meaning c.args.frames.now).current) in
     let rs = c.args.rows.now in
     let i = c.loop-row.row-index in
     let change = changed row_name (marked_in fs) for_many in
