@@ -1,11 +1,12 @@
 -- What each call of a copied stack leaves: its meaning, the facts that its fields owe, and the memory past its need.
-use Rattle.std.proofs.Common.{◌≡◌, ℕ, ◌+◌, ◌-◌, ◌*◌, ◌<◌, ◌≤◌, ◌≢◌, ◌⊎◌, List, [], ◌∷◌, ◌++◌, length, drop, Some, None, Ok, Err, Result, sym, refl, ap, ◌∙◌, subst, inl, inr, ⊎_elim, arith}
+use Rattle.std.proofs.Common.{◌≡◌, ℕ, ◌+◌, ◌-◌, ◌*◌, ◌<◌, ◌≤◌, ◌≢◌, ◌⊎◌, List, [], ◌∷◌, ◌++◌, length, take, drop, Some, None, Ok, Err, Result, sym, refl, ap, ◌∙◌, subst, inl, inr, ⊎_elim, arith}
 use lib.Seq.{paste}
 use Rattle.std.specs.List.{slice_get, AllByRecursion as All}
 use Rattle.std.specs.Option.{ok_or}
 use Rattle.store.specs.declared.refusal.Refusal.TheVariants.{NotHeld}
 use Rattle.std.proofs.lemmas.List.FromFn.{length-map-range_with_len, get_or-map-range_with_len, map-range_with_len_more}
 use Rattle.std.proofs.ByRecursion.{All-weaker, All-push}
+use Rattle.std.proofs.Math.Seq.{take-append_seam}
 use Rattle.std.proofs.lemmas.List.{length-drop, length_push, map_push}
 use Rattle.std.proofs.lemmas.Option.{slice_get-get_or, slice_get_past}
 use Rattle.std.proofs.lemmas.Bool.{cases_order}
@@ -26,7 +27,7 @@ use Rattle.bottom.proofs.Tops.{pushed_room}
 use Rattle.copied.specs.declared.copied.Copied.{Copied}
 use Rattle.cell.specs.Filled.{width}
 use Rattle.copied.specs.Cells.{cell_at, cells}
-use Rattle.copied.specs.Meant.{size, meant}
+use Rattle.copied.specs.Meant.{size, meant, one_given}
 use Rattle.copied.specs.Parts.{part_start, read_row, spare}
 use Rattle.copied.proofs.Regions.{cells_inside, cells_outside, cells-from, own_cell, written-beyond, written-long, part_below, part_past}
 use Rattle.copied.proofs.Stores.{words_of, RowFits, PlaceFits, rows_fit, spares_fit, Owed, owed}
@@ -193,6 +194,12 @@ save_refused s n a x is answer = ap (λ b. (b, meant s)) is ∙ saved-refused (r
 -- no place is free only where no name more may be held
 pub all_held : (s : Copied) → length s.free.items ≡ 0 → s.table.limit ≤ length (listed s.table)
 all_held s e = let a = s.whole in omega arith
+
+-- the places that are left once the last is given out
+pub one-given : (rest free : List ℕ) (place : ℕ) → free ≡ rest ++ (place ∷ []) → rest ≡ one_given free
+one-given rest free place e =
+    let n : length free - 1 ≡ length rest = let a = ap length e in let d = length_push rest place in omega arith in
+    sym (ap (λ k. take k free) n ∙ ap (take (length rest)) e ∙ take-append_seam rest (place ∷ []))
 
 -- the current list is copied to a free part
 module _ (s : Copied) (n place : ℕ) (rest : List ℕ) (popped : s.free.items ≡ rest ++ (place ∷ [])) where

@@ -1,8 +1,10 @@
 -- The facts of a copied stack, from its fields and back to them.
-use Rattle.std.proofs.Common.{◌≡◌, ℕ, zero, suc, ◌+◌, ◌*◌, ◌<◌, ◌≤◌, true, List, ◌++◌, map, length, take, drop, vec_items, vec_len, sym, refl, ap, ◌∙◌, subst, ⊎_elim, arith}
+use Rattle.std.proofs.Common.{◌≡◌, ℕ, zero, suc, ◌+◌, ◌*◌, ◌<◌, ◌≤◌, true, List, [], ◌∷◌, ◌++◌, map, reverse, length, take, drop, vec_items, vec_len, sym, refl, ap, ◌∙◌, subst, ⊎_elim, arith}
 use Rattle.std.specs.List.{range_with_len, copy_within, AllByRecursion as All}
 use lib.Seq.{paste}
-use Rattle.std.proofs.lemmas.List.{with_items_is}
+use mathlib.Core.List.{reverse-cons}
+use Rattle.std.proofs.ByRecursion.{All-push}
+use Rattle.std.proofs.lemmas.List.{with_items_is, map_push}
 use Rattle.std.specs.Vec.{with_items}
 use Rattle.std.proofs.lemmas.Bool.{cases_eq, and_parts, and_from, leb-true, le-leb, ltb-true, lt-ltb}
 use Rattle.bottom.specs.declared.row.Row.{Row}
@@ -10,7 +12,7 @@ use Rattle.bottom.specs.declared.table.Table.{Table}
 use Rattle.bottom.specs.Limits.{cells_needed}
 use Rattle.bottom.specs.Rows.{blank, bit, places, every}
 use Rattle.bottom.specs.Tables.{listed}
-use Rattle.bottom.proofs.Rows.{bit_other, bit_le, every-from, every_to}
+use Rattle.bottom.proofs.Rows.{places_push, bit_other, bit_le, every-from, every_to}
 use Rattle.copied.specs.declared.copied.Copied.{Copied}
 use Rattle.cell.specs.Filled.{width}
 use Rattle.cell.specs.declared.cell.Cell.{Cell}
@@ -75,17 +77,22 @@ module _ (long : ℕ) (t : Table) (free : List ℕ) (depth len limit : ℕ) (rs 
     placed = every_to _ _ (λ r f. lt-ltb r.at t.limit f) (spare free) (subst (λ ys. All (PlaceFits t.limit) (spare ys)) (sym frees) (subst (λ m. All (PlaceFits m) (spare fs)) (sym is) placed));
   }
 
--- the rows of a new table have places of their own
-pub blank-places : (a n k : ℕ) → (places (map blank (range_with_len a n)) k ≤ 1) × (k < a → places (map blank (range_with_len a n)) k ≡ 0)
+-- the places of a store that holds no name, in falling order, one more of them
+blank_more : (a n : ℕ) → map blank (reverse (range_with_len a (suc n))) ≡ map blank (reverse (range_with_len (a + 1) n)) ++ (blank a ∷ [])
+blank_more a n = let rest = range_with_len (a + 1) n in ap (map blank) (reverse-cons a rest) ∙ map_push blank (reverse rest) a
+
+-- they are apart
+pub blank-places : (a n k : ℕ) → (places (map blank (reverse (range_with_len a n))) k ≤ 1) × (k < a → places (map blank (reverse (range_with_len a n))) k ≡ 0)
 blank-places a zero k = (omega arith, λ l. refl)
 blank-places a (suc n) k =
     let rest = blank-places (a + 1) n k in
+    let more = ap (λ rs. places rs k) (blank_more a n) ∙ places_push (map blank (reverse (range_with_len (a + 1) n))) (blank a) k in
     ⊎_elim
     (λ (e : a ≡ k). let z = rest.1 (omega arith) in let b = bit_le a k in (omega arith, λ l. absurd (let never : ⊥ = omega arith in never)))
     (λ ne. let b : bit a k ≡ 0 = bit_other a k ne in let y = rest.0 in (omega arith, λ l. let w = rest.1 (omega arith) in omega arith))
     (cases_eq a k)
 
 -- and their parts are there
-pub blank-fit : (limit a n : ℕ) → a + n ≤ limit → All (PlaceFits limit) (map blank (range_with_len a n))
+pub blank-fit : (limit a n : ℕ) → a + n ≤ limit → All (PlaceFits limit) (map blank (reverse (range_with_len a n)))
 blank-fit limit a zero l = tt
-blank-fit limit a (suc n) l = (omega arith, blank-fit limit (a + 1) n (omega arith))
+blank-fit limit a (suc n) l = subst (All (PlaceFits limit)) (sym (blank_more a n)) (All-push _ (map blank (reverse (range_with_len (a + 1) n))) (blank a) (blank-fit limit (a + 1) n (omega arith)) (omega arith))

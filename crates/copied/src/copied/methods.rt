@@ -1,10 +1,11 @@
 //! The calls on a copied stack.
-ghost use Rattle.std.specs.Prelude.{◌≡◌, ◌*◌, ◌<◌, ◌≤◌, drop, length};
-ghost use Rattle.store.specs.Meaning.{with_current};
+ghost use Rattle.std.specs.Prelude.{◌≡◌, ◌*◌, ◌<◌, ◌≤◌, ◌++◌, if◌then◌else◌, drop, length, is_ok};
+ghost use Rattle.store.specs.Meaning.{with_current, saved, taken, released};
 ghost use Rattle.bottom.specs.Limits.{accepted, cells_needed, split_at};
 ghost use Rattle.bottom.specs.Meant.{opened};
 ghost use Rattle.cell.specs.Filled.{width};
-ghost use Rattle.copied.specs.Meant.{meant, fixed_of};
+ghost use Rattle.bottom.specs.Rows.{row_under};
+ghost use Rattle.copied.specs.Meant.{meant, fixed_of, held_rows, free_places, place_of, one_given};
 ghost use Rattle.copied.specs.Parts.{read_row};
 
 use crate::copied::Copied;
@@ -53,6 +54,7 @@ impl Copied {
         requires { (row.len ≤ self.old.depth) × (row.at < self.old.table.limit) }
         ensures meaning { meant self.new ≡ with_current (meant self.old) (read_row self.old.memory.items self.old.depth row) }
         ensures memory { fixed_of self.new ≡ fixed_of self.old }
+        ensures places { free_places self.new ≡ free_places self.old }
     {
         let start = limits::cells_needed(self.depth, row.at);
         words::copy_cells(self.memory.as_mut_slice(), start, 0, row.len as usize);
@@ -84,7 +86,12 @@ impl Store for Copied {
         Ok(words::read_cell(self.memory.as_slice(), self.len as usize))
     }
 
-    fn save(&mut self, name: Name) -> Result<(), Refusal> {
+    /// The list is laid where a place is free, the last of these.
+    fn save(&mut self, name: Name) -> Result<(), Refusal>
+        ensures call { (result, meant self.new) ≡ saved (meant self.old) name.0 }
+        ensures memory { fixed_of self.new ≡ fixed_of self.old }
+        ensures places { free_places self.new ≡ (if is_ok result then one_given (free_places self.old) else free_places self.old) }
+    {
         self.table.admit(name)?;
         let place = self.free.pop().ok_or(Refusal::HeldFull)?;
         self.table.push(Row {
@@ -103,16 +110,26 @@ impl Store for Copied {
         Ok(())
     }
 
-    fn take(&mut self, name: Name) -> Result<(), Refusal> {
+    /// The place of the name that goes is the next to be given out.
+    fn take(&mut self, name: Name) -> Result<(), Refusal>
+        ensures call { (result, meant self.new) ≡ taken (meant self.old) name.0 }
+        ensures memory { fixed_of self.new ≡ fixed_of self.old }
+        ensures places { free_places self.new ≡ free_places self.old ++ place_of (row_under (held_rows self.old) name.0) }
+    {
         let row = self.table.remove(name)?;
         self.free.push(row.at);
         self.load(row);
         Ok(())
     }
 
-    fn release(&mut self, name: Name) -> Result<(), Refusal> {
-        let row = self.table.remove(name)?;
-        self.free.push(row.at);
+    /// The place of the name that goes is the next to be given out.
+    fn release(&mut self, name: Name) -> Result<(), Refusal>
+        ensures call { (result, meant self.new) ≡ released (meant self.old) name.0 }
+        ensures memory { fixed_of self.new ≡ fixed_of self.old }
+        ensures places { free_places self.new ≡ free_places self.old ++ place_of (row_under (held_rows self.old) name.0) }
+    {
+        let gone = self.table.remove(name)?;
+        self.free.push(gone.at);
         Ok(())
     }
 

@@ -24,4 +24,4 @@ returns c =
     let us = c.copy_cells.new.memory in
     let e : length us ≡ vec_len s.memory = search rules in
     let items = words_copied s us _ _ 0 c.args.row.len _ _ e c.copy_cells.ensures c.as_mut_slice.ensures.value c.cells_needed-start.ensures refl in
-    record { meaning = load_means s c.args.row c.requires _ items; memory = fixed_same s _ _ refl (load_beyond s c.args.row c.requires _ items) }
+    record { places = refl; meaning = load_means s c.args.row c.requires _ items; memory = fixed_same s _ _ refl (load_beyond s c.args.row c.requires _ items) }

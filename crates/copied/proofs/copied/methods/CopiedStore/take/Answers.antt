@@ -1,7 +1,8 @@
-use Rattle.std.proofs.Common.{Ok, refl, ap, ◌∙◌, arith}
+use Rattle.std.proofs.Common.{Ok, ◌++◌, sym, refl, ap, ◌∙◌, arith}
 use Rattle.bottom.specs.Tables.{listed}
 use Rattle.bottom.specs.Meant.{by_rows}
 use Rattle.bottom.specs.Rows.{rows_without}
+use Rattle.copied.specs.Meant.{place_of}
 use Rattle.copied.specs.Parts.{read_row}
 use Rattle.copied.proofs.Stores.{words_of}
 use Rattle.bottom.proofs.Answered.{is_held, taken_none, taken_some}
@@ -37,6 +38,7 @@ returns c =
     let s = c.args.self.now in
     let r = c.in_ok-row.row in
     record {
+      places = c.load.ensures.places ∙ c.push.ensures.items ∙ ap (λ o. s.free.items ++ place_of o) (sym (is_held _ r c.in_ok-row.ensures.row));
       memory = c.load.ensures.memory ∙ fixed_same s (words_of s) _ c.in_ok-row.ensures.limit refl;
       call = ap (λ m. (Ok tt, m)) c.load.ensures.meaning
           ∙ ap (λ rs. (Ok tt, by_rows (read_row (words_of s) s.depth) (read_row (words_of s) s.depth r) rs s.depth c.remove.new.self.limit)) c.in_ok-row.ensures.rows
