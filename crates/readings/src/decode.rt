@@ -15,60 +15,62 @@ enum State {
     Count(usize),
 }
 
-/// A text that is being put together, and how often it is wanted.
+/// A text that is to be repeated, and how often while one is put together. Its memory serves for the next one.
 #[derive(Drop)]
 struct Part {
-    times: usize,
+    times: Option<usize>,
     text: Vec<u8>,
 }
 
 /// A sheet that is being put together.
 #[derive(Drop)]
 struct Decoder {
-    alloc: Global,
     sheet: Vec<u8>,
-    part: Option<Part>,
+    part: Part,
     state: State,
 }
 
 /// The sheet that a line stands for.
-pub fn decoded(alloc: Global, line: &str) -> Result<Vec<u8>, AllocError> {
+pub fn decoded(alloc: Global, line: &[u8]) -> Result<Vec<u8>, AllocError> {
     let mut decoder = Decoder::new(alloc);
-    for b in line.bytes() {
-        decoder.take(b)?;
+    for b in line {
+        decoder.take(*b)?;
     }
     Ok(decoder.sheet)
 }
 
+/// A digit of base 16; a capital letter, as any other byte, counts as 0.
 fn hex_digit(b: u8) -> u8 {
-    char::from(b).to_digit(16).unwrap_or(0) as u8
+    let digit = char::from(b).to_digit(16);
+    digit.filter(|_| !b.is_ascii_uppercase()).unwrap_or(0) as u8
 }
 
 impl Decoder {
     fn new(alloc: Global) -> Self {
+        let part = Part {
+            times: None,
+            text: Vec::new(alloc),
+        };
         Decoder {
-            alloc,
             sheet: Vec::new(alloc),
-            part: None,
+            part,
             state: State::Text,
         }
     }
 
     fn put(&mut self, b: u8) -> Result<(), AllocError> {
         self.state = State::Text;
-        match &mut self.part {
-            Some(part) => part.text.push(b)?,
+        match self.part.times {
+            Some(_) => self.part.text.push(b)?,
             None => self.sheet.push(b)?,
         }
         Ok(())
     }
 
     fn repeat(&mut self) -> Result<(), AllocError> {
-        if let Some(part) = self.part.take() {
-            // `repeat` would make all of it once more, beside the sheet.
-            for _ in 0..part.times {
-                self.sheet.extend_from_slice(&part.text)?;
-            }
+        // `repeat` would make all of it once more, beside the sheet.
+        for _ in 0..self.part.times.take().unwrap_or(0) {
+            self.sheet.extend_from_slice(&self.part.text)?;
         }
         Ok(())
     }
@@ -86,8 +88,8 @@ impl Decoder {
             (State::HighDigit, _) => self.state = State::LowDigit(hex_digit(b)),
             (State::LowDigit(high), _) => self.put((high << 4) | hex_digit(b))?,
             (State::Count(times), b'*') => {
-                let text = Vec::new(self.alloc);
-                self.part = Some(Part { times, text });
+                self.part.text.clear();
+                self.part.times = Some(times);
                 self.state = State::Text;
             }
             (State::Count(so_far), _) => {
