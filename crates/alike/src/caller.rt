@@ -21,7 +21,7 @@ const NAMES: u32 = 8;
 const INDICES: u32 = 24;
 
 /// Where the generator is.
-#[derive(Drop)]
+#[derive(Clone, Copy)]
 pub struct Caller {
     state: u64,
 }

@@ -46,9 +46,11 @@ impl Code {
     pub fn new(instructions: &[Instruction]) -> Option<Self>
         ensures { result ≡ accepted instructions.now }
     {
-        let instructions = ArrayVec::try_from(instructions)
-            .ok()
-            .filter(|list| all_fit(list))?;
+        // A list that is refused is not copied first, and one that fits is moved once.
+        if instructions.len() > CAPACITY || !all_fit(instructions) {
+            return None;
+        }
+        let instructions = ArrayVec::try_from(instructions).ok()?;
         Some(Code { instructions })
     }
 

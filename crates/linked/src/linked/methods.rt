@@ -57,8 +57,8 @@ impl Linked {
             return Err(Refusal::NoIndex);
         }
         let mut at = list.top;
-        // Along the links, since no slice has the cells of a list.
-        for _ in index + 1..list.len {
+        // Along the links, since no slice has the cells of a list; counted down, as the links go.
+        for _ in (index + 1..list.len).rev() {
             at = self.pool.nodes[at as usize].link;
         }
         Ok(self.pool.nodes[at as usize].cell)

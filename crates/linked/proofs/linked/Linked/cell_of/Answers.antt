@@ -1,4 +1,4 @@
-use Rattle.std.proofs.Common.{◌≡◌, ℕ, suc, ◌+◌, ◌-◌, ◌<◌, true, Some, sym, ap, ◌∙◌, subst, arith}
+use Rattle.std.proofs.Common.{◌≡◌, ℕ, suc, ◌-◌, ◌<◌, true, Some, sym, ap, ◌∙◌, subst, arith}
 use Rattle.std.specs.List.{slice_get}
 use Rattle.std.specs.Option.{ok_or}
 use Rattle.std.proofs.lemmas.Option.{slice_get_past}
@@ -24,8 +24,8 @@ pub loop-init : goal.loop-init
 loop-init c =
     let s = c.args.self.now in
     let h = c.if-index-list.false in
-    let e : c.args.list.len ≡ suc (c.args.index + (c.args.list.len - (c.args.index + 1))) = omega arith in
-    (subst (λ n. ends (nodes_of s) (size s) c.args.list.top n ≡ true) e c.requires, ap (λ n. slice_get (cells (nodes_of s) c.args.list.top n) c.args.index) (sym e))
+    let e : c.args.list.len ≡ suc (c.args.list.len - 1) = omega arith in
+    (subst (λ n. ends (nodes_of s) (size s) c.args.list.top n ≡ true) e c.requires, ap (λ n. slice_get (cells (nodes_of s) c.args.list.top n) c.args.index) (sym e), h)
 
 -- the node that the loop has come to
 at_in : (s : Linked) (t n : ℕ) → ends (nodes_of s) (size s) t (suc n) ≡ true → t < size s
@@ -44,22 +44,22 @@ pub loop-preserved : goal.loop-preserved
 loop-preserved c =
     let s = c.args.self.now in
     let t : ℕ = c.loop.at in
-    let n : ℕ = (c.args.index + (c.args.list.len - c.loop.counter)) in
+    let n : ℕ = c.loop.counter - 1 in
     let r = c.index.result.now in
     let is : r ≡ node_at (nodes_of s) t = read_node (nodes_of s) t r (in_nodes s t (at_in s t n c.loop.invariant.0)) c.index.ensures in
     let h = c.loop-test.true in
     let d = down s t n c.args.index r is (omega arith) c.loop.invariant.0 in
-    let e : n - 1 ≡ c.args.index + (c.args.list.len - (c.loop.counter + 1)) = omega arith in
-    (subst (λ m. ends (nodes_of s) (size s) r.link (suc m) ≡ true) e d.0, ap (λ m. slice_get (cells (nodes_of s) r.link (suc m)) c.args.index) (sym e) ∙ d.1 ∙ c.loop.invariant.1)
+    (d.0, d.1 ∙ c.loop.invariant.1, omega arith)
 
 pub returns : goal.returns
 returns c =
     let s = c.args.self.now in
     let t : ℕ = c.loop.at in
-    let n : ℕ = (c.args.index + (c.args.list.len - c.loop.counter)) in
+    let n : ℕ = c.loop.counter - 1 in
     let r = c.index-2.result.now in
     let is : r ≡ node_at (nodes_of s) t = read_node (nodes_of s) t r (in_nodes s t (at_in s t n c.loop.invariant.0)) c.index-2.ensures in
     let h = c.loop-test.false in
+    let l = c.loop.invariant.2 in
     let e : n ≡ c.args.index = omega arith in
     ap (λ o. ok_or o NoIndex)
     (ap (λ (y : Node). Some y.cell) is ∙ sym (cell_top (nodes_of s) t c.args.index) ∙ ap (λ k. slice_get (cells (nodes_of s) t (suc k)) c.args.index) (sym e) ∙ c.loop.invariant.1)
