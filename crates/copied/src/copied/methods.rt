@@ -1,5 +1,6 @@
 //! The calls on a copied stack.
-ghost use Rattle.std.specs.Prelude.{◌≡◌, ◌*◌, ◌<◌, ◌≤◌, ◌++◌, if◌then◌else◌, drop, length, is_ok};
+ghost use Rattle.std.specs.Prelude.{◌≡◌, ◌*◌, ◌<◌, ◌≤◌, ◌++◌, if◌then◌else◌, drop, length, reverse, is_ok};
+ghost use Rattle.std.specs.List.{range_with_len};
 ghost use Rattle.store.specs.Meaning.{with_current, saved, taken, released};
 ghost use Rattle.bottom.specs.Limits.{accepted, cells_needed, split_at};
 ghost use Rattle.bottom.specs.Meant.{opened};
@@ -23,6 +24,7 @@ impl Copied {
     pub fn new(memory: Vec<u32>, depth: u32, held: u32) -> Copied
         ensures meaning { meant result ≡ opened (accepted (length memory.items) (width * cells_needed depth held) depth held) depth held }
         ensures memory { fixed_of result ≡ split_at (accepted (length memory.items) (width * cells_needed depth held) depth held) (width * cells_needed depth held) memory.items }
+        ensures places { free_places result ≡ reverse (range_with_len 0 (meant result).held_limit) }
     {
         let (depth, held) = limits::granted(memory.len() / WIDTH, depth, held);
         Copied {
