@@ -1,7 +1,7 @@
 //! The calls on a copied stack.
 ghost use Rattle.std.specs.Prelude.{◌≡◌, ◌*◌, ◌<◌, ◌≤◌, ◌++◌, if◌then◌else◌, drop, length, reverse, is_ok};
 ghost use Rattle.std.specs.List.{range_with_len};
-ghost use Rattle.store.specs.Meaning.{with_current, saved, taken, released};
+ghost use Rattle.store.specs.Meaning.{with_current, pushed, popped, saved, restored, taken, released};
 ghost use Rattle.bottom.specs.Limits.{accepted, cells_needed, split_at};
 ghost use Rattle.bottom.specs.Meant.{opened};
 ghost use Rattle.cell.specs.Filled.{width};
@@ -71,7 +71,11 @@ impl Store for Copied {
 
     ghost fixed = { fixed_of };
 
-    fn push(&mut self, cell: Cell) -> Result<(), Refusal> {
+    fn push(&mut self, cell: Cell) -> Result<(), Refusal>
+        ensures call { (result, meant self.new) ≡ pushed (meant self.old) cell }
+        ensures memory { fixed_of self.new ≡ fixed_of self.old }
+        ensures places { free_places self.new ≡ free_places self.old }
+    {
         if self.len >= self.depth {
             return Err(Refusal::Full(0));
         }
@@ -80,7 +84,11 @@ impl Store for Copied {
         Ok(())
     }
 
-    fn pop(&mut self) -> Result<Cell, Refusal> {
+    fn pop(&mut self) -> Result<Cell, Refusal>
+        ensures call { (result, meant self.new) ≡ popped (meant self.old) }
+        ensures memory { fixed_of self.new ≡ fixed_of self.old }
+        ensures places { free_places self.new ≡ free_places self.old }
+    {
         if self.len == 0 {
             return Err(Refusal::Empty);
         }
@@ -106,7 +114,11 @@ impl Store for Copied {
         Ok(())
     }
 
-    fn restore(&mut self, name: Name) -> Result<(), Refusal> {
+    fn restore(&mut self, name: Name) -> Result<(), Refusal>
+        ensures call { (result, meant self.new) ≡ restored (meant self.old) name.0 }
+        ensures memory { fixed_of self.new ≡ fixed_of self.old }
+        ensures places { free_places self.new ≡ free_places self.old }
+    {
         let row = self.table.get(name)?;
         self.load(row);
         Ok(())

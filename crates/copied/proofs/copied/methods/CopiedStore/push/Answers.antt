@@ -22,6 +22,7 @@ returns c =
     let whole : length c.args.cell.words ≡ width = search rules in
     let items = words_put s us _ s.len c.args.cell e c.write_cell.ensures c.as_mut_slice.ensures.value whole in
     record {
+      places = refl;
       memory = fixed_same s _ _ refl (push_beyond s c.if-self.false c.args.cell whole _ items);
       call = push_means s c.if-self.false c.args.cell whole _ items;
     }

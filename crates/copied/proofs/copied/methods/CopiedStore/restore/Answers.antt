@@ -19,6 +19,7 @@ returns c =
     let s = c.args.self.now in
     let r = c.in_ok-row.row in
     record {
+      places = c.load.ensures.places;
       memory = c.load.ensures.memory;
       call = ap (λ m. (Ok tt, m)) c.load.ensures.meaning ∙ restored_some (read_row (words_of s) s.depth) _ (listed s.table) s.depth s.table.limit c.args.name.0 r (is_held _ r c.in_ok-row.ensures);
     }
