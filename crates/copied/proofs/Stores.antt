@@ -77,22 +77,42 @@ module _ (long : ℕ) (t : Table) (free : List ℕ) (depth len limit : ℕ) (rs 
     placed = every_to _ _ (λ r f. lt-ltb r.at t.limit f) (spare free) (subst (λ ys. All (PlaceFits t.limit) (spare ys)) (sym frees) (subst (λ m. All (PlaceFits m) (spare fs)) (sym is) placed));
   }
 
--- the places of a store that holds no name, in falling order, one more of them
-blank_more : (a n : ℕ) → map blank (reverse (range_with_len a (suc n))) ≡ map blank (reverse (range_with_len (a + 1) n)) ++ (blank a ∷ [])
-blank_more a n = let rest = range_with_len (a + 1) n in ap (map blank) (reverse-cons a rest) ∙ map_push blank (reverse rest) a
-
--- they are apart
-pub blank-places : (a n k : ℕ) → (places (map blank (reverse (range_with_len a n))) k ≤ 1) × (k < a → places (map blank (reverse (range_with_len a n))) k ≡ 0)
+-- the rows of a new table have places of their own
+pub blank-places : (a n k : ℕ) → (places (map blank (range_with_len a n)) k ≤ 1) × (k < a → places (map blank (range_with_len a n)) k ≡ 0)
 blank-places a zero k = (omega arith, λ l. refl)
 blank-places a (suc n) k =
     let rest = blank-places (a + 1) n k in
-    let more = ap (λ rs. places rs k) (blank_more a n) ∙ places_push (map blank (reverse (range_with_len (a + 1) n))) (blank a) k in
     ⊎_elim
     (λ (e : a ≡ k). let z = rest.1 (omega arith) in let b = bit_le a k in (omega arith, λ l. absurd (let never : ⊥ = omega arith in never)))
     (λ ne. let b : bit a k ≡ 0 = bit_other a k ne in let y = rest.0 in (omega arith, λ l. let w = rest.1 (omega arith) in omega arith))
     (cases_eq a k)
 
 -- and their parts are there
-pub blank-fit : (limit a n : ℕ) → a + n ≤ limit → All (PlaceFits limit) (map blank (reverse (range_with_len a n)))
+pub blank-fit : (limit a n : ℕ) → a + n ≤ limit → All (PlaceFits limit) (map blank (range_with_len a n))
 blank-fit limit a zero l = tt
-blank-fit limit a (suc n) l = subst (All (PlaceFits limit)) (sym (blank_more a n)) (All-push _ (map blank (reverse (range_with_len (a + 1) n))) (blank a) (blank-fit limit (a + 1) n (omega arith)) (omega arith))
+blank-fit limit a (suc n) l = (omega arith, blank-fit limit (a + 1) n (omega arith))
+
+-- numbers in the other order, as rows: the first comes last
+blank_last : (x : ℕ) (xs : List ℕ) → map blank (reverse (x ∷ xs)) ≡ map blank (reverse xs) ++ (blank x ∷ [])
+blank_last x xs = ap (map blank) (reverse-cons x xs) ∙ map_push blank (reverse xs) x
+
+-- they have as many places
+turned-same : (xs : List ℕ) (k : ℕ) → places (map blank (reverse xs)) k ≡ places (map blank xs) k
+turned-same [] k = refl
+turned-same (x ∷ xs) k =
+    let rest = turned-same xs k in
+    let more = ap (λ rs. places rs k) (blank_last x xs) ∙ places_push (map blank (reverse xs)) (blank x) k in
+    omega arith
+
+-- and whatever is so of each is so of each
+turned-all : (P : Row → Type 0) (xs : List ℕ) → All P (map blank xs) → All P (map blank (reverse xs))
+turned-all P [] h = tt
+turned-all P (x ∷ xs) h = subst (All P) (sym (blank_last x xs)) (All-push _ (map blank (reverse xs)) (blank x) (turned-all P xs h.1) h.0)
+
+-- the rows of a new table in falling order have places of their own
+pub turned-places : (a n k : ℕ) → (places (map blank (reverse (range_with_len a n))) k ≤ 1) × (k < a → places (map blank (reverse (range_with_len a n))) k ≡ 0)
+turned-places a n k = subst (λ m. (m ≤ 1) × (k < a → m ≡ 0)) (sym (turned-same (range_with_len a n) k)) (blank-places a n k)
+
+-- and their parts are there
+pub turned-fit : (limit a n : ℕ) → a + n ≤ limit → All (PlaceFits limit) (map blank (reverse (range_with_len a n)))
+turned-fit limit a n l = turned-all (PlaceFits limit) (range_with_len a n) (blank-fit limit a n l)
