@@ -92,11 +92,11 @@ pub blank-fit : (limit a n : ℕ) → a + n ≤ limit → All (PlaceFits limit) 
 blank-fit limit a zero l = tt
 blank-fit limit a (suc n) l = (omega arith, blank-fit limit (a + 1) n (omega arith))
 
--- numbers in the other order, as rows: the first comes last
+-- places turned about: the first comes last
 blank_last : (x : ℕ) (xs : List ℕ) → map blank (reverse (x ∷ xs)) ≡ map blank (reverse xs) ++ (blank x ∷ [])
 blank_last x xs = ap (map blank) (reverse-cons x xs) ∙ map_push blank (reverse xs) x
 
--- they have as many places
+-- a number is the place of as many rows as before
 turned-same : (xs : List ℕ) (k : ℕ) → places (map blank (reverse xs)) k ≡ places (map blank xs) k
 turned-same [] k = refl
 turned-same (x ∷ xs) k =
@@ -104,7 +104,7 @@ turned-same (x ∷ xs) k =
     let more = ap (λ rs. places rs k) (blank_last x xs) ∙ places_push (map blank (reverse xs)) (blank x) k in
     omega arith
 
--- and whatever is so of each is so of each
+-- and what holds of every row before holds of every row after
 turned-all : (P : Row → Type 0) (xs : List ℕ) → All P (map blank xs) → All P (map blank (reverse xs))
 turned-all P [] h = tt
 turned-all P (x ∷ xs) h = subst (All P) (sym (blank_last x xs)) (All-push _ (map blank (reverse xs)) (blank x) (turned-all P xs h.1) h.0)
